@@ -1,0 +1,3 @@
+pub mod Choose
+pub mod Once
+pub mod Tests

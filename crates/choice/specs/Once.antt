@@ -1,0 +1,6 @@
+-- When a promise is settled.
+--     Once P      P, what a function promises of its arguments, its result and its lent buffers as it returns, allows one result
+use mathlib.Core.Path.{_≡_}
+
+abbrev pub Once : {K : Type 0} {A R E : K → Type 0} → ((κ : K) → A κ → R κ → E κ → Type 0) → Type 0
+Once {K} {A} {R} {E} P = (κ : K) (a : A κ) (r r′ : R κ) (e e′ : E κ) → P κ a r e → P κ a r′ e′ → r ≡ r′

@@ -1,5 +1,5 @@
-// The done slot: each reason put in and taken out, and both refusals with what they leave. Number of the
-// answer, then of a take: reason (1 returned, 2 host error, 3 out of fuel, 4 error) and the value that it carries.
+// The done slot: each reason put in and taken out, and both refusals with what they leave. A line has the answer's number, and of a take the
+// reason (1 returned, 2 host error, 3 out of fuel, 4 error) and the value that it carries.
 use crate::say;
 use done::DoneReason;
 use done::DoneSlot;
@@ -7,64 +7,59 @@ use done::Fill;
 use done::Take;
 
 pub fn run() {
-    let empty = take(b"take from a new slot", DoneSlot::empty());
-    let after_offset = offset(empty);
-    let after_host = host_error(after_offset);
-    let after_fuel = fuel(after_host);
-    error(after_fuel);
+    say::title(b"new slot: take");
+    let empty = take(DoneSlot::empty());
+    say::title(b"returned 7: fill, fill again with an error, take, take again");
+    let after_returned = twice(empty, DoneReason::Returned(7), DoneReason::Error);
+    let after_refused = take(after_returned);
+    say::title(b"host error: fill, take");
+    let after_host = once(after_refused, DoneReason::HostError);
+    say::title(b"out of fuel 9: fill, fill again with returned 1, take");
+    let after_fuel = twice(
+        after_host,
+        DoneReason::OutOfFuel(9),
+        DoneReason::Returned(1),
+    );
+    say::title(b"returned 0: fill, take");
+    let after_zero = once(after_fuel, DoneReason::Returned(0));
+    say::title(b"error: fill, take");
+    once(after_zero, DoneReason::Error);
 }
 
-// 12 keeps the old reason; 13 after it is taken.
-fn offset(slot: DoneSlot) -> DoneSlot {
-    let holds = fill(b"fill: returned 7", slot, DoneReason::Returned(7));
-    let still = fill(b"fill again: error", holds, DoneReason::Error);
-    let empty = take(b"take", still);
-    take(b"take again", empty)
+fn once(slot: DoneSlot, reason: DoneReason) -> DoneSlot {
+    take(fill(slot, reason))
 }
 
-fn host_error(slot: DoneSlot) -> DoneSlot {
-    let holds = fill(b"fill: host error", slot, DoneReason::HostError);
-    take(b"take", holds)
+// The second fill is refused, and the first reason taken.
+fn twice(slot: DoneSlot, first: DoneReason, second: DoneReason) -> DoneSlot {
+    take(fill(fill(slot, first), second))
 }
 
-fn fuel(slot: DoneSlot) -> DoneSlot {
-    let holds = fill(b"fill: out of fuel 9", slot, DoneReason::OutOfFuel(9));
-    let still = fill(b"fill again: returned 1", holds, DoneReason::Returned(1));
-    take(b"take", still)
-}
-
-fn error(slot: DoneSlot) -> DoneSlot {
-    let zero = fill(b"fill: returned 0", slot, DoneReason::Returned(0));
-    let empty = take(b"take", zero);
-    let holds = fill(b"fill: error", empty, DoneReason::Error);
-    take(b"take", holds)
-}
-
-fn fill(words: &[u8], slot: DoneSlot, reason: DoneReason) -> DoneSlot {
+fn fill(slot: DoneSlot, reason: DoneReason) -> DoneSlot {
     let after = slot.done_with(reason);
     let answer = after.answer;
     match answer {
-        Fill::Done => say::line(words, 0, 0, 0),
-        Fill::AlreadyFilled => say::line(words, 12, 0, 0),
+        Fill::Done => say::line(0, 0, 0),
+        Fill::AlreadyFilled => say::line(12, 0, 0),
     }
     after.slot
 }
 
-fn take(words: &[u8], slot: DoneSlot) -> DoneSlot {
+fn take(slot: DoneSlot) -> DoneSlot {
     let after = slot.take_done_reason();
     let answer = after.answer;
     match answer {
-        Take::Took(reason) => show(words, reason),
-        Take::NothingToTake => say::line(words, 13, 0, 0),
+        Take::Took(reason) => show(reason),
+        Take::NothingToTake => say::line(13, 0, 0),
     }
     after.slot
 }
 
-fn show(words: &[u8], reason: DoneReason) {
+fn show(reason: DoneReason) {
     match reason {
-        DoneReason::Returned(offset) => say::line(words, 0, 1, offset),
-        DoneReason::HostError => say::line(words, 0, 2, 0),
-        DoneReason::OutOfFuel(needed) => say::line(words, 0, 3, needed),
-        DoneReason::Error => say::line(words, 0, 4, 0),
+        DoneReason::Returned(offset) => say::line(0, 1, offset),
+        DoneReason::HostError => say::line(0, 2, 0),
+        DoneReason::OutOfFuel(needed) => say::line(0, 3, needed),
+        DoneReason::Error => say::line(0, 4, 0),
     }
 }

@@ -21,6 +21,13 @@ module _ {A : Type 0} (f : ℕ → A) (a : A) where
   refuses (here e) = rw e
   refuses (there e p) = rw e (refuses p)
 
+-- the number alone
+pub first-number : {ts : List Test} {n : ℕ} → FirstIs ts n → firstOf ts ≡ n
+first-number p = refuses (λ n. n) 0 p
+
+pub no-number : (ts : List Test) → Passed ts → firstOf ts ≡ 0
+no-number ts p = accepts (λ n. n) 0 ts p
+
 pub data Verdict (ts : List Test) : Type 0 where
   passes : Passed ts → Verdict ts
   fails : (n : ℕ) → FirstIs ts n → Verdict ts

@@ -77,3 +77,6 @@ first-true (here e) = e
 
 pub only-one : {t : Bool} {n : ℕ} → FirstIs ((t gives n) ∷ []) n ↔ (t ≡ true)
 only-one = (first-true, here)
+
+pub only-number : {t : Bool} {m n : ℕ} → FirstIs ((t gives m) ∷ []) n → m ≡ n
+only-number (here e) = refl

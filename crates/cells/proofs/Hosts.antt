@@ -1,0 +1,172 @@
+-- The laws of a host's frame and of the parts that it is lent: when 11 is given, which cells a part is, and what the cells are when it is back.
+-- Assumes nothing.
+--     exactly-11                                    11 is given exactly when document 01 says so
+--     frame-sized                                   a frame that is not refused has both counts 0, or lies within the cells and has as many as its size
+--     empty-part, refused-part                      no cells: of a frame with both counts 0, and of one that is refused
+--     length-part, part-cell                        a part of a frame that is not refused: how many cells it has, and which
+--     lent-back                                     (proofs/Runs.antt) the cells when a part comes back to whoever lent it: what they were, with that part replaced
+--     results-in, results-kept, length-results      the cells when a host's results are stored
+use mathlib.Core.Path.{_≡_, refl, sym, ap, _∙_}
+use mathlib.Core.Bool.{Bool, true, false, not, _&&_, _||_, true≢false}
+use mathlib.Core.Logic.{_↔_, _≢_, _⊎_, inl, inr}
+use mathlib.Core.List.{List, [], _∷_, _++_}
+use Prim.Native.Nat.{ℕ, zero, suc, _+_, _-_, _≤_, _<_, min, max}
+use native.Mathlib.Omega.{arith}
+use native.Mathlib.Decide.{decLe, decLt, ℕ-discrete}
+use lib.ListN.{length, getD, take, drop, length-take, length-drop, drop-of-length-le}
+use lib.Seq.{sets, length-sets, take-nil, getD-take, getD-drop, length-take-le}
+use lib.Dec.{ltb, eqb}
+use borrow.Author.Tests.{ltb-true, ltb-false, lt-ltb, le-ltb, eqb-true, eqb-false, eq-eqb, ne-eqb, not-true, not-false}
+use Rattle.choice.specs.Choose.{choose}
+use Rattle.choice.proofs.Bools.{second-holds, second-fails}
+use Rattle.cells.specs.declared.host.HostFrame.{HostFrame}
+use Rattle.cells.specs.Host.{hostSize, BadFrame, badHostFrame, hostPart, resultsStored}
+use Rattle.cells.proofs.Runs.{sets-before, sets-behind, sets-in, sets-beyond, part-there, values-back}
+use Rattle.cells.proofs.host.is_bad_host_frame.Reads as is-bad-host-frame
+
+-- ---- when 11 is given
+module _ (f : HostFrame) (len : ℕ) where
+  abbrev size : ℕ
+  size = hostSize (f .params) (f .results)
+
+  -- a frame that is not refused
+  pub data FrameSized : Type 0 where
+    no-cells : f .params ≡ 0 → f .results ≡ 0 → FrameSized
+    sized : f .end ≤ len → f .start ≤ f .end → f .end - f .start ≡ size → FrameSized
+
+  sized-or-not : FrameSized ⊎ BadFrame f len
+  sized-or-not = by (ℕ-discrete (f .params) 0) (ℕ-discrete (f .results) 0) (decLe (f .end) len) (decLe (f .start) (f .end)) (ℕ-discrete (f .end - f .start) size)
+    where
+      bad : (size ≢ 0) → Dec (f .end ≤ len) → Dec (f .start ≤ f .end) → Dec (f .end - f .start ≡ size) → FrameSized ⊎ BadFrame f len
+      bad n (no p) d e = inr (n, inl (omega arith))
+      bad n (yes p) (no q) e = inr (n, inr (inl (omega arith)))
+      bad n (yes p) (yes q) (no r) = inr (n, inr (inr r))
+      bad n (yes p) (yes q) (yes r) = inl (sized p q r)
+
+      by : Dec (f .params ≡ 0) → Dec (f .results ≡ 0) → Dec (f .end ≤ len) → Dec (f .start ≤ f .end) → Dec (f .end - f .start ≡ size) → FrameSized ⊎ BadFrame f len
+      by (yes p) (yes q) c d e = inl (no-cells p q)
+      by (no p) q c d e = bad (λ z. p (omega arith)) c d e
+      by (yes p) (no q) c d e = bad (λ z. q (omega arith)) c d e
+
+  told-sized : FrameSized → badHostFrame f len ≡ false
+  unfolding badHostFrame
+  told-sized (no-cells p q) = rw (eq-eqb (f .params) 0 p, eq-eqb (f .results) 0 q)
+  told-sized (sized p q r) =
+      rw (le-ltb len (f .end) p, le-ltb (f .end) (f .start) q, eq-eqb (f .end - f .start) size r)
+      (second-fails (not (eqb (f .params) 0 && eqb (f .results) 0)) false refl)
+
+  told-bad : BadFrame f len → badHostFrame f len ≡ true
+  unfolding badHostFrame
+  told-bad h = rw (counts (ℕ-discrete (f .params) 0)) (cause (h .1))
+    where
+      counts : Dec (f .params ≡ 0) → (eqb (f .params) 0 && eqb (f .results) 0) ≡ false
+      counts (yes p) = second-fails (eqb (f .params) 0) (eqb (f .results) 0) (ne-eqb (f .results) 0 (λ q. h .0 (omega arith)))
+      counts (no p) = rw (ne-eqb (f .params) 0 p)
+
+      cause : (len < f .end) ⊎ ((f .end < f .start) ⊎ (f .end - f .start ≢ size)) → (ltb len (f .end) || (ltb (f .end) (f .start) || not (eqb (f .end - f .start) size))) ≡ true
+      cause (inl p) = rw (lt-ltb len (f .end) p)
+      cause (inr (inl p)) = rw (lt-ltb (f .end) (f .start) p) (second-holds (ltb len (f .end)) true refl)
+      cause (inr (inr p)) =
+          rw (ne-eqb (f .end - f .start) size p)
+          (second-holds (ltb len (f .end)) (ltb (f .end) (f .start) || true) (second-holds (ltb (f .end) (f .start)) true refl))
+
+  pub frame-sized : badHostFrame f len ≡ false ↔ FrameSized
+  frame-sized = (from sized-or-not, told-sized)
+    where
+      from : FrameSized ⊎ BadFrame f len → badHostFrame f len ≡ false → FrameSized
+      from (inl h) e = h
+      from (inr h) e = absurd (true≢false (sym (told-bad h) ∙ e))
+
+  -- of any judgement that the function's promise allows
+  pub exactly-11 : (r : Bool) (e : _) → is-bad-host-frame.Post tt (f, (len, tt)) r e → r ≡ true ↔ BadFrame f len
+  exactly-11 r e p = (from sized-or-not, λ h. p ∙ told-bad h)
+    where
+      from : FrameSized ⊎ BadFrame f len → r ≡ true → BadFrame f len
+      from (inl h) q = absurd (true≢false (sym q ∙ p ∙ told-sized h))
+      from (inr h) q = h
+
+-- ---- no part: of a frame with both counts 0, and of one that is refused
+pub empty-part : (cells : List ℕ) (len : ℕ) (f : HostFrame) → hostPart cells len f 0 ≡ []
+unfolding hostPart choose
+empty-part cells len f = by (badHostFrame f len)
+  where
+    by : (t : Bool) → choose t [] (take 0 (drop (f .start) cells)) ≡ []
+    by true = refl
+    by false = refl
+
+pub refused-part : (cells : List ℕ) (len : ℕ) (f : HostFrame) (n : ℕ) → badHostFrame f len ≡ true → hostPart cells len f n ≡ []
+unfolding hostPart choose
+refused-part cells len f n e = rw e
+
+-- ---- a part of a frame that is not refused
+module _ (cells : List ℕ) (len : ℕ) (f : HostFrame) (n : ℕ) (e : badHostFrame f len ≡ false) where
+  accepted-part : hostPart cells len f n ≡ take n (drop (f .start) cells)
+  unfolding hostPart choose
+  accepted-part = rw e
+
+  pub length-part : f .start + n ≤ length cells → length (hostPart cells len f n) ≡ n
+  length-part h = ap length accepted-part ∙ length-take-le n (drop (f .start) cells) (rw (length-drop (f .start) cells) (omega arith))
+
+  pub part-cell : (k : ℕ) → k < n → getD (hostPart cells len f n) k 0 ≡ getD cells (f .start + k) 0
+  part-cell k b = ap (λ p. getD p k 0) accepted-part ∙ getD-take n (drop (f .start) cells) k 0 b ∙ getD-drop (f .start) cells k 0
+
+-- ---- a part, where t is the judgement of its frame
+module _ (cells : List ℕ) (len : ℕ) (f : HostFrame) (n : ℕ) (t : Bool) (e : t ≡ badHostFrame f len) where
+  pub part-refused : t ≡ true → [] ≡ hostPart cells len f n
+  unfolding hostPart choose
+  part-refused h = rw (← e, h)
+
+  pub part-far : t ≡ false → length cells ≤ f .start → [] ≡ hostPart cells len f n
+  unfolding hostPart choose
+  part-far h far = rw (← e, h, drop-of-length-le cells far) (sym (take-nil {A = ℕ} n))
+
+  pub part-lent : t ≡ false → (k s : ℕ) → s ≡ n → k ≡ min s (length cells - f .start) → take (f .start + k - f .start) (drop (f .start) cells) ≡ hostPart cells len f n
+  unfolding hostPart choose
+  part-lent h k s q c =
+      let size : f .start + k - f .start ≡ k = omega arith in
+      rw (← e, h, size, c, q) (part-there n (f .start) cells)
+
+-- ---- the cells when the part is back
+module _ (cells : List ℕ) (len : ℕ) (f : HostFrame) (values : List ℕ) (t : Bool) (e : t ≡ badHostFrame f len) where
+  pub results-refused : t ≡ true → cells ≡ resultsStored cells len f values
+  unfolding resultsStored choose
+  results-refused h = rw (← e, h)
+
+  pub results-far : t ≡ false → length cells ≤ f .start → cells ≡ resultsStored cells len f values
+  unfolding resultsStored choose
+  results-far h far = rw (← e, h) (sym (sets-beyond (take (hostSize (f .params) (f .results)) values) cells (f .start) far))
+
+  pub results-back : t ≡ false → (k s : ℕ) (last : List ℕ) → f .start < length cells → s ≡ hostSize (f .params) (f .results) → k ≡ min s (length cells - f .start)
+      → last ≡ sets (take (f .start + k - f .start) (drop (f .start) cells)) 0 values
+      → take (f .start) cells ++ (last ++ drop (f .start + k - f .start) (drop (f .start) cells)) ≡ resultsStored cells len f values
+  unfolding resultsStored choose
+  results-back h k s last b q c g = rw (← e, h) (values-back cells values last (f .start) k (hostSize (f .params) (f .results)) (omega arith) (c ∙ ap (λ s. min s (length cells - f .start)) q) g)
+
+-- ---- what is stored, and what is kept
+module _ (cells : List ℕ) (len : ℕ) (f : HostFrame) (values : List ℕ) where
+  pub length-results : length (resultsStored cells len f values) ≡ length cells
+  unfolding resultsStored choose
+  length-results = by (badHostFrame f len)
+    where
+      by : (t : Bool) → length (choose t cells (sets cells (f .start) (take (hostSize (f .params) (f .results)) values))) ≡ length cells
+      by true = refl
+      by false = length-sets cells (f .start) (take (hostSize (f .params) (f .results)) values)
+
+  pub results-kept : (k : ℕ) → (k < f .start) ⊎ (f .start + hostSize (f .params) (f .results) ≤ k) → getD (resultsStored cells len f values) k 0 ≡ getD cells k 0
+  unfolding resultsStored choose
+  results-kept k h = by (badHostFrame f len) h
+    where
+      stored : List ℕ
+      stored = take (hostSize (f .params) (f .results)) values
+
+      by : (t : Bool) → (k < f .start) ⊎ (f .start + hostSize (f .params) (f .results) ≤ k) → getD (choose t cells (sets cells (f .start) stored)) k 0 ≡ getD cells k 0
+      by true g = refl
+      by false (inl g) = sets-before stored cells (f .start) k g
+      by false (inr g) = sets-behind stored cells (f .start) k (rw (length-take (hostSize (f .params) (f .results)) values) (omega arith))
+
+  pub results-in : badHostFrame f len ≡ false → (k : ℕ) → k < hostSize (f .params) (f .results) → k < length values → f .start + k < length cells
+      → getD (resultsStored cells len f values) (f .start + k) 0 ≡ getD values k 0
+  unfolding resultsStored choose
+  results-in e k b v w =
+      rw e (sets-in (take (hostSize (f .params) (f .results)) values) cells (f .start) k (f .start + k) refl (rw (length-take (hostSize (f .params) (f .results)) values) (omega arith)) w
+      ∙ getD-take (hostSize (f .params) (f .results)) values k 0 b)

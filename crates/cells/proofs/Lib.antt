@@ -1,0 +1,6 @@
+pub mod Cells
+pub mod Growth
+pub mod Hosts
+mod Loops
+pub mod Runs
+pub mod Settled

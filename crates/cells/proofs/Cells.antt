@@ -6,14 +6,14 @@
 --     host-kept, length-host
 --     return-host-copied, return-host-kept, length-return-host
 --     set-same, set-other, length-setCell
-use mathlib.Core.Path.{_≡_, refl, sym, ap, _∙_}
+use mathlib.Core.Path.{_≡_, refl, _∙_}
 use mathlib.Core.Logic.{_≢_, _⊎_, inl, inr}
 use mathlib.Core.List.{List, [], _∷_}
 use Prim.Native.Nat.{ℕ, _+_, _-_, _≤_, _<_}
 use native.Mathlib.Omega.{arith}
 use native.Mathlib.Decide.{decLt}
 use lib.ListN.{length, getD, take, drop, replicate, length-replicate, length-take, length-drop, getD-replicate}
-use lib.Seq.{sets, length-sets, getD-take, getD-drop, length-take-le}
+use lib.Seq.{sets, length-sets, getD-take, getD-drop}
 use Rattle.cells.specs.Cells.{reached, cleared, copied, pushCells, replaceCells, hostCells, returnHostCells, setCell}
 use Rattle.cells.proofs.Runs.{sets-before, sets-behind, sets-in}
 
@@ -107,7 +107,8 @@ module _ (cells : List ℕ) (len new s head params locals : ℕ) where
   unfolding replaceCells moved
   replace-cleared k h b w = cleared-in moved (s + params) (s + locals) k h b (rw length-moved w)
 
-  pub replace-kept : (k : ℕ) → (k < s) ⊎ ((s + params ≤ k) × (s + locals ≤ k)) → getD (replaceCells cells len new s head params locals) k 0 ≡ getD cells k 0
+  pub replace-kept : (k : ℕ) → (k < s) ⊎ ((s + params ≤ k) × (s + locals ≤ k))
+      → getD (replaceCells cells len new s head params locals) k 0 ≡ getD cells k 0
   unfolding replaceCells moved
   replace-kept k (inl h) =
       cleared-kept moved (s + params) (s + locals) k (inl (omega arith))
@@ -134,7 +135,8 @@ module _ (cells : List ℕ) (len new s head params : ℕ) where
   unfolding returnHostCells
   length-return-host = length-reached (copied cells (s + head) s params) len new ∙ length-copied cells (s + head) s params
 
-  pub return-host-copied : (k : ℕ) → k < params → s + head + k < length cells → getD (returnHostCells cells len new s head params) (s + k) 0 ≡ getD cells (s + head + k) 0
+  pub return-host-copied : (k : ℕ) → k < params → s + head + k < length cells
+      → getD (returnHostCells cells len new s head params) (s + k) 0 ≡ getD cells (s + head + k) 0
   unfolding returnHostCells
   return-host-copied k b w = reached-same (copied cells (s + head) s params) len new (s + k) ∙ copied-in cells (s + head) s params k b (omega arith) w
 

@@ -1,11 +1,11 @@
 -- 2 is given exactly when the needed length is above M, 3 exactly when it is at most M but above L: of any verdict that the function's promise
 -- allows. And what a caller knows of the verdict that it matched on. Assumes nothing.
 use mathlib.Core.Path.{_≡_, refl, sym, ap, _∙_}
-use mathlib.Core.Bool.{Bool, true, false, cond}
+use mathlib.Core.Bool.{cond}
 use mathlib.Core.Logic.{_↔_, Iff·trans}
 use Prim.Native.Nat.{ℕ, _≤_, _<_, max}
 use native.Mathlib.Omega.{arith}
-use lib.Dec.{ltb, eqb, lit≤, lit<}
+use lib.Dec.{eqb, lit≤, lit<}
 use borrow.Author.Tests.{ltb-true, ltb-false, lt-ltb, le-ltb}
 use Rattle.choice.specs.Tests.{FirstIs, here, there}
 use Rattle.choice.proofs.OneToOne.{one-to-one}

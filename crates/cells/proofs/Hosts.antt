@@ -9,14 +9,14 @@
 use mathlib.Core.Path.{_≡_, refl, sym, ap, _∙_}
 use mathlib.Core.Bool.{Bool, true, false, not, _&&_, _||_, true≢false}
 use mathlib.Core.Logic.{_↔_, _≢_, _⊎_, inl, inr}
-use mathlib.Core.List.{List, [], _∷_, _++_}
-use Prim.Native.Nat.{ℕ, zero, suc, _+_, _-_, _≤_, _<_, min, max}
+use mathlib.Core.List.{List, [], _++_}
+use Prim.Native.Nat.{ℕ, _+_, _-_, _≤_, _<_, min}
 use native.Mathlib.Omega.{arith}
-use native.Mathlib.Decide.{decLe, decLt, ℕ-discrete}
+use native.Mathlib.Decide.{decLe, ℕ-discrete}
 use lib.ListN.{length, getD, take, drop, length-take, length-drop, drop-of-length-le}
 use lib.Seq.{sets, length-sets, take-nil, getD-take, getD-drop, length-take-le}
 use lib.Dec.{ltb, eqb}
-use borrow.Author.Tests.{ltb-true, ltb-false, lt-ltb, le-ltb, eqb-true, eqb-false, eq-eqb, ne-eqb, not-true, not-false}
+use borrow.Author.Tests.{lt-ltb, le-ltb, eq-eqb, ne-eqb}
 use Rattle.choice.specs.Choose.{choose}
 use Rattle.choice.proofs.Bools.{second-holds, second-fails}
 use Rattle.cells.specs.declared.host.HostFrame.{HostFrame}
@@ -43,7 +43,8 @@ module _ (f : HostFrame) (len : ℕ) where
       bad n (yes p) (yes q) (no r) = inr (n, inr (inr r))
       bad n (yes p) (yes q) (yes r) = inl (sized p q r)
 
-      by : Dec (f .params ≡ 0) → Dec (f .results ≡ 0) → Dec (f .end ≤ len) → Dec (f .start ≤ f .end) → Dec (f .end - f .start ≡ size) → FrameSized ⊎ BadFrame f len
+      by : Dec (f .params ≡ 0) → Dec (f .results ≡ 0) → Dec (f .end ≤ len) → Dec (f .start ≤ f .end) → Dec (f .end - f .start ≡ size)
+          → FrameSized ⊎ BadFrame f len
       by (yes p) (yes q) c d e = inl (no-cells p q)
       by (no p) q c d e = bad (λ z. p (omega arith)) c d e
       by (yes p) (no q) c d e = bad (λ z. q (omega arith)) c d e
@@ -63,7 +64,8 @@ module _ (f : HostFrame) (len : ℕ) where
       counts (yes p) = second-fails (eqb (f .params) 0) (eqb (f .results) 0) (ne-eqb (f .results) 0 (λ q. h .0 (omega arith)))
       counts (no p) = rw (ne-eqb (f .params) 0 p)
 
-      cause : (len < f .end) ⊎ ((f .end < f .start) ⊎ (f .end - f .start ≢ size)) → (ltb len (f .end) || (ltb (f .end) (f .start) || not (eqb (f .end - f .start) size))) ≡ true
+      cause : (len < f .end) ⊎ ((f .end < f .start) ⊎ (f .end - f .start ≢ size))
+          → (ltb len (f .end) || (ltb (f .end) (f .start) || not (eqb (f .end - f .start) size))) ≡ true
       cause (inl p) = rw (lt-ltb len (f .end) p)
       cause (inr (inl p)) = rw (lt-ltb (f .end) (f .start) p) (second-holds (ltb len (f .end)) true refl)
       cause (inr (inr p)) =
@@ -120,7 +122,8 @@ module _ (cells : List ℕ) (len : ℕ) (f : HostFrame) (n : ℕ) (t : Bool) (e 
   unfolding hostPart choose
   part-far h far = rw (← e, h, drop-of-length-le cells far) (sym (take-nil {A = ℕ} n))
 
-  pub part-lent : t ≡ false → (k s : ℕ) → s ≡ n → k ≡ min s (length cells - f .start) → take (f .start + k - f .start) (drop (f .start) cells) ≡ hostPart cells len f n
+  pub part-lent : t ≡ false → (k s : ℕ) → s ≡ n → k ≡ min s (length cells - f .start)
+      → take (f .start + k - f .start) (drop (f .start) cells) ≡ hostPart cells len f n
   unfolding hostPart choose
   part-lent h k s q c =
       let size : f .start + k - f .start ≡ k = omega arith in
@@ -136,7 +139,8 @@ module _ (cells : List ℕ) (len : ℕ) (f : HostFrame) (values : List ℕ) (t :
   unfolding resultsStored choose
   results-far h far = rw (← e, h) (sym (sets-beyond (take (hostSize (f .params) (f .results)) values) cells (f .start) far))
 
-  pub results-back : t ≡ false → (k s : ℕ) (last : List ℕ) → f .start < length cells → s ≡ hostSize (f .params) (f .results) → k ≡ min s (length cells - f .start)
+  pub results-back : t ≡ false → (k s : ℕ) (last : List ℕ) → f .start < length cells → s ≡ hostSize (f .params) (f .results)
+      → k ≡ min s (length cells - f .start)
       → last ≡ sets (take (f .start + k - f .start) (drop (f .start) cells)) 0 values
       → take (f .start) cells ++ (last ++ drop (f .start + k - f .start) (drop (f .start) cells)) ≡ resultsStored cells len f values
   unfolding resultsStored choose
@@ -152,14 +156,16 @@ module _ (cells : List ℕ) (len : ℕ) (f : HostFrame) (values : List ℕ) wher
       by true = refl
       by false = length-sets cells (f .start) (take (hostSize (f .params) (f .results)) values)
 
-  pub results-kept : (k : ℕ) → (k < f .start) ⊎ (f .start + hostSize (f .params) (f .results) ≤ k) → getD (resultsStored cells len f values) k 0 ≡ getD cells k 0
+  pub results-kept : (k : ℕ) → (k < f .start) ⊎ (f .start + hostSize (f .params) (f .results) ≤ k)
+      → getD (resultsStored cells len f values) k 0 ≡ getD cells k 0
   unfolding resultsStored choose
   results-kept k h = by (badHostFrame f len) h
     where
       stored : List ℕ
       stored = take (hostSize (f .params) (f .results)) values
 
-      by : (t : Bool) → (k < f .start) ⊎ (f .start + hostSize (f .params) (f .results) ≤ k) → getD (choose t cells (sets cells (f .start) stored)) k 0 ≡ getD cells k 0
+      by : (t : Bool) → (k < f .start) ⊎ (f .start + hostSize (f .params) (f .results) ≤ k)
+          → getD (choose t cells (sets cells (f .start) stored)) k 0 ≡ getD cells k 0
       by true g = refl
       by false (inl g) = sets-before stored cells (f .start) k g
       by false (inr g) = sets-behind stored cells (f .start) k (rw (length-take (hostSize (f .params) (f .results)) values) (omega arith))

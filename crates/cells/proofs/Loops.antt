@@ -1,7 +1,7 @@
 -- What the loops over cells come to: what one turn does, and what is known where they end. Assumes nothing.
-use mathlib.Core.Path.{_≡_, refl, sym, ap, _∙_}
+use mathlib.Core.Path.{_≡_, sym, ap, _∙_}
 use mathlib.Core.List.{List, [], _∷_, _++_}
-use Prim.Native.Nat.{ℕ, zero, suc, _+_, _-_, _≤_, _<_, min}
+use Prim.Native.Nat.{ℕ, suc, _+_, _-_, _≤_, _<_, min}
 use native.Mathlib.Omega.{arith}
 use native.Mathlib.Nat.{add-zero, sub-zero, sub-self}
 use native.Mathlib.Numerals.{add-one}
@@ -67,7 +67,8 @@ copied-split l from to n r h f =
 
 -- the loop that copies block by block, b cells a turn: what is left to copy comes to m
 module _ (l : List ℕ) (from to n k : ℕ) (m : List ℕ) (h : to ≤ from) (f : from + n ≤ length l) where
-  pub copied-turn : (b : ℕ) → k + b ≤ n → copied l (from + k) (to + k) (n - k) ≡ m → copied (copied l (from + k) (to + k) b) (from + (k + b)) (to + (k + b)) (n - (k + b)) ≡ m
+  pub copied-turn : (b : ℕ) → k + b ≤ n → copied l (from + k) (to + k) (n - k) ≡ m
+      → copied (copied l (from + k) (to + k) b) (from + (k + b)) (to + (k + b)) (n - (k + b)) ≡ m
   copied-turn b c e =
       let p : from + (k + b) ≡ from + k + b = omega arith in
       let q : to + (k + b) ≡ to + k + b = omega arith in

@@ -5,10 +5,9 @@ use mathlib.Core.List.{List, [], _∷_, _++_, append-nil, append-assoc}
 use Prim.Native.Nat.{ℕ, zero, suc, _+_, _-_, _≤_, _<_, min}
 use native.Mathlib.Omega.{arith}
 use native.Mathlib.Nat.{add-zero}
-use native.Mathlib.Numerals.{add-one}
 use native.Mathlib.Decide.{decLe, decLt}
-use lib.ListN.{length, getD, set, take, drop, replicate, length-set, length-take, length-drop, drop-of-length-le}
-use lib.Seq.{sets, sets-eq, length-sets, set-out, getD-set-same, getD-set-other, getD-take, getD-drop, drop-cons, drop-drop, drop-set-lt, take-all, take-length, length-take-le, ext-getD}
+use lib.ListN.{length, getD, set, take, drop, length-set, length-take, length-drop, drop-of-length-le}
+use lib.Seq.{sets, sets-eq, length-sets, set-out, getD-set-same, getD-set-other, getD-take, getD-drop, drop-drop, drop-set-lt, take-all, take-length, length-take-le, ext-getD}
 
 -- ---- where a cell of the list stands
 pub sets-before : (vs l : List ℕ) (i k : ℕ) → k < i → getD (sets l i vs) k 0 ≡ getD l k 0

@@ -2,7 +2,7 @@
 // reaches beyond the end of the buffer only what is there is lent. Above, none does: by the law `frame-sized` a frame ends within `len`, and 9
 // holds `len` to the buffer.
 ghost use mathlib.Core.Path.{_≡_};
-ghost use Prim.Native.Nat.{_-_, max};
+ghost use Prim.Native.Nat.{_-_};
 ghost use Rattle.cells.specs.Host.{badHostFrame, hostSize, hostParams, hostResults, resultsStored};
 use crate::run::lesser;
 use crate::run::put_values;

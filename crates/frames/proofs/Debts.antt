@@ -6,21 +6,21 @@
 --     new-good, longer-good                a row made with a start within the cells breaks no rule, and none does by growth
 --     remade                               a row that breaks no rule is the one made of its ip, its start and its debt
 --     repaid, repaid-over                  of a current instance: what naming one leaves owing is made good by the debt, also where an older one is kept
-use mathlib.Core.Path.{_≡_, refl, sym, ap, _∙_}
+use mathlib.Core.Path.{_≡_, refl, sym, ap}
 use mathlib.Core.Bool.{Bool, true, false, not, _&&_, true≢false}
 use mathlib.Core.Logic.{_↔_}
-use Prim.Native.Nat.{ℕ, zero, suc, _≤_, _<_}
+use Prim.Native.Nat.{ℕ, zero, suc, _≤_}
 use native.Mathlib.Omega.{arith}
 use lib.Dec.{ltb, eqb}
-use borrow.Author.Tests.{le-ltb, ltb-false, eq-eqb, eqb-true, eqb-false}
+use borrow.Author.Tests.{le-ltb, ltb-false, eq-eqb, eqb-true}
 use Rattle.choice.specs.Choose.{choose}
 use Rattle.choice.proofs.Bools.{neither, both-fail, unless}
 use Rattle.given.specs.declared.Given.{Given}
 use Rattle.given.specs.declared.Given.the-variants.{Absent, Value}
-use Rattle.given.specs.Given.{isGiven, givenNumber, givenOrElse}
+use Rattle.given.specs.Given.{isGiven, givenOrElse}
 use Rattle.frames.specs.declared.row.Row.{Row}
 use Rattle.frames.specs.Rows.{brokenRow, withIp}
-use Rattle.frames.specs.Debts.{flagOf, newRow, debtOf, owingOf, carriedOf}
+use Rattle.frames.specs.Debts.{newRow, debtOf, owingOf, carriedOf}
 
 module _ (p s : ℕ) (d : Given) where
   pub new-ip : newRow p s d .ip ≡ p
@@ -110,7 +110,8 @@ repaid (Value a) (Value b) t = by (eqb a b) refl
     by true q = ap Value (sym (eqb-true a b q))
     by false q = refl
 
-pub repaid-over : (debt current named : Given) → isGiven current ≡ true → givenOrElse (carriedOf debt current named) (givenOrElse named current) ≡ givenOrElse debt current
+pub repaid-over : (debt current named : Given) → isGiven current ≡ true
+    → givenOrElse (carriedOf debt current named) (givenOrElse named current) ≡ givenOrElse debt current
 unfolding carriedOf
 repaid-over Absent current named t = repaid current named t
 repaid-over (Value n) current named t = refl

@@ -2,7 +2,7 @@
 use mathlib.Core.Path.{_≡_, refl, sym, _∙_}
 use mathlib.Core.Bool.{Bool, true, false, true≢false}
 use mathlib.Core.List.{List}
-use Prim.Native.Nat.{ℕ, _+_, _*_, _/_, _≤_, _<_}
+use Prim.Native.Nat.{ℕ, _*_, _/_, _≤_, _<_}
 use native.Mathlib.Omega.{arith}
 use native.Mathlib.Decide.{decLt}
 use lib.ListN.{length, getD}
@@ -63,7 +63,8 @@ module _ (D : ℕ) (words : List ℕ) (i : ℕ) where
   unfolding putRow choose
   put-none row n = by (tooFewWords (length words) D) (leb D i) refl refl
     where
-      by : (t u : Bool) → tooFewWords (length words) D ≡ t → leb D i ≡ u → choose t words (choose u words (stores words (wordPlace D i) 0 (rowList row))) ≡ words
+      by : (t u : Bool) → tooFewWords (length words) D ≡ t → leb D i ≡ u
+          → choose t words (choose u words (stores words (wordPlace D i) 0 (rowList row))) ≡ words
       by true u e f = refl
       by false true e f = refl
       by false false e f = absurd (n (e, leb-false D i f))

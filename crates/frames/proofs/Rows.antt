@@ -3,18 +3,14 @@
 --     row-same, row-other       the row that is read at the place of the one put, and at another
 --     word-outside              a word at no place of the row put; `word-beyond` one that lies behind all rows
 --     ip-same, ip-other         the same for an ip that is stored
-use mathlib.Core.Path.{_≡_, refl, sym, ap, _∙_}
-use mathlib.Core.Bool.{Bool, true, false, true≢false}
+use mathlib.Core.Path.{_≡_, sym, ap, _∙_}
+use mathlib.Core.Bool.{true, false, true≢false}
 use mathlib.Core.Logic.{_≢_}
-use mathlib.Core.List.{List, [], _∷_}
-use Prim.Native.Nat.{ℕ, _+_, _*_, _≤_, _<_}
+use mathlib.Core.List.{List}
+use Prim.Native.Nat.{ℕ, _*_, _≤_, _<_}
 use native.Mathlib.Omega.{arith}
 use native.Mathlib.Nat.{add-zero}
-use native.Mathlib.Decide.{decLt, decLe}
 use lib.ListN.{length, getD, set}
-use lib.Dec.{leb, ltb}
-use borrow.Author.Tests.{le-ltb, le-leb, lt-leb, ltb-false, leb-false}
-use Rattle.choice.specs.Choose.{choose}
 use Rattle.frames.specs.declared.row.Row.{Row}
 use Rattle.frames.specs.Rows.{rowWords, wordPlace, tooFewWords, RowThere, rowList, stores, rowAt, putRow, withIp, putIp}
 use Rattle.frames.proofs.Places.{place-apart, place-within, words-enough, row-there, put-there, row-none, put-none, there?}
@@ -65,7 +61,8 @@ module _ (D : ℕ) (words : List ℕ) (i : ℕ) (row : Row) where
   pub row-other : (j : ℕ) → j ≢ i → rowAt D (putRow D words i row) j ≡ rowAt D words j
   row-other j n = by (there? D words i) (there? D words j)
     where
-      other : (h : RowThere D words i) → (g : RowThere D words j) → (k : ℕ) → k < rowWords → getD (putRow D words i row) (wordPlace D j k) 0 ≡ getD words (wordPlace D j k) 0
+      other : (h : RowThere D words i) → (g : RowThere D words j) → (k : ℕ) → k < rowWords
+          → getD (putRow D words i row) (wordPlace D j k) 0 ≡ getD words (wordPlace D j k) 0
       other h g k b = word-outside (wordPlace D j k) (λ m c e. n (place-apart D j i k m (g .1) (h .1) b c e .0))
 
       by : Dec (RowThere D words i) → Dec (RowThere D words j) → rowAt D (putRow D words i row) j ≡ rowAt D words j

@@ -1,6 +1,6 @@
 -- `cells::run::clear` meets its contract. The invariant of its loop: what is left to clear comes to what there was to clear, and the length is
 -- kept. The measure is what is left. Assumes nothing.
-use mathlib.Core.Path.{_≡_, refl, _∙_}
+use mathlib.Core.Path.{_≡_, refl}
 use Prim.Native.Nat.{_-_}
 use native.Mathlib.Omega.{arith}
 use borrow.Author.Needs.{needs}
@@ -18,46 +18,23 @@ Inv-loop cells₀ from to end i₀ cells i =
 abbrev μ-loop : tie.MeasureT-loop
 μ-loop cells₀ from to end i₀ cells i = end - i
 
-lesser-requires : tie.Need-lesser-requires Inv-loop μ-loop
-lesser-requires c κs = search needs
-
-loop-holds : tie.Need-loop-holds Inv-loop μ-loop
-loop-holds c = (refl, refl)
-
-mul-cells : tie.Need-mul-cells Inv-loop μ-loop
-mul-cells c = search needs
-
-slice-write-cells : tie.Need-slice-write-cells Inv-loop μ-loop
-slice-write-cells c = search needs
-
-add-i : tie.Need-add-i Inv-loop μ-loop
-add-i c = search needs
-
-loop-less : tie.Need-loop-less Inv-loop μ-loop
-loop-less c = search needs
-
-loop-again : tie.Need-loop-again Inv-loop μ-loop
-loop-again c = (simp length-set (search needs), clear-turn (c .before .loop .cells) (c .before .loop .i) (c .before .before .before .before .args .to) _ (omega arith) (search needs))
-
-same-length : tie.Need-same-length Inv-loop μ-loop
-same-length c = search needs
-
-returns : tie.Need-returns Inv-loop μ-loop
-unfolding cleared
-returns c = clear-done (c .before .loop .cells) (c .before .loop .i) (c .before .before .before .before .args .to) _ (omega arith) (search needs)
-
 pub clear-spec : {M : Type 1} → statement M
+unfolding cleared
 clear-spec =
     tie.close
     (tie.spec
     Inv-loop
     μ-loop
-    lesser-requires
-    loop-holds
-    mul-cells
-    slice-write-cells
-    add-i
-    loop-less
-    loop-again
-    same-length
-    returns)
+    (λ c κs. search needs)
+    (λ c. (refl, refl))
+    (λ c. search needs)
+    (λ c. search needs)
+    (λ c. search needs)
+    (λ c. search needs)
+    (λ c.
+    let at = c .before .loop in
+    (simp length-set (search needs), clear-turn (at .cells) (at .i) (c .before .before .before .before .args .to) _ (omega arith) (search needs)))
+    (λ c. search needs)
+    (λ c.
+    let at = c .before .loop in
+    clear-done (at .cells) (at .i) (c .before .before .before .before .args .to) _ (omega arith) (search needs)))

@@ -17,53 +17,25 @@ Inv-loop part₀ values n i₀ part i =
 abbrev μ-loop : tie.MeasureT-loop
 μ-loop part₀ values n i₀ part i = n - i
 
-lesser-requires : tie.Need-lesser-requires Inv-loop μ-loop
-lesser-requires c κs = search needs
-
-loop-holds : tie.Need-loop-holds Inv-loop μ-loop
-loop-holds c = (refl, refl)
-
-mul-value : tie.Need-mul-value Inv-loop μ-loop
-mul-value c = search needs
-
-shared-slice-read-value : tie.Need-shared-slice-read-value Inv-loop μ-loop
-shared-slice-read-value c = search needs
-
-mul-part : tie.Need-mul-part Inv-loop μ-loop
-mul-part c = search needs
-
-slice-write-part : tie.Need-slice-write-part Inv-loop μ-loop
-slice-write-part c = search needs
-
-add-i : tie.Need-add-i Inv-loop μ-loop
-add-i c = search needs
-
-loop-less : tie.Need-loop-less Inv-loop μ-loop
-loop-less c = search needs
-
-loop-again : tie.Need-loop-again Inv-loop μ-loop
-loop-again c = (simp length-set (search needs), put-turn (c .before .before .loop .part) (c .before .before .before .before .before .before .args .values .now) (c .before .before .loop .i) _ (omega arith) (search needs))
-
-same-length : tie.Need-same-length Inv-loop μ-loop
-same-length c = search needs
-
-returns : tie.Need-returns Inv-loop μ-loop
-returns c = put-done _ (c .before .before .before .before .before .args .values .now) (c .before .loop .i) _ (omega arith) (search needs)
-
 pub put-values-spec : {M : Type 1} → statement M
 put-values-spec =
     tie.close
     (tie.spec
     Inv-loop
     μ-loop
-    lesser-requires
-    loop-holds
-    mul-value
-    shared-slice-read-value
-    mul-part
-    slice-write-part
-    add-i
-    loop-less
-    loop-again
-    same-length
-    returns)
+    (λ c κs. search needs)
+    (λ c. (refl, refl))
+    (λ c. search needs)
+    (λ c. search needs)
+    (λ c. search needs)
+    (λ c. search needs)
+    (λ c. search needs)
+    (λ c. search needs)
+    (λ c.
+    let at = c .before .before .loop in
+    let values = c .before .before .before .before .before .before .args .values .now in
+    (simp length-set (search needs), put-turn (at .part) values (at .i) _ (omega arith) (search needs)))
+    (λ c. search needs)
+    (λ c.
+    let values = c .before .before .before .before .before .args .values .now in
+    put-done _ values (c .before .loop .i) _ (omega arith) (search needs)))

@@ -6,16 +6,18 @@
 --     host-kept, length-host
 --     return-host-copied, return-host-kept, length-return-host
 --     set-same, set-other, length-setCell
-use mathlib.Core.Path.{_≡_, refl, _∙_}
+use mathlib.Core.Path.{_≡_, refl, sym, _∙_}
 use mathlib.Core.Logic.{_≢_, _⊎_, inl, inr}
 use mathlib.Core.List.{List, [], _∷_}
-use Prim.Native.Nat.{ℕ, _+_, _-_, _≤_, _<_}
+use Prim.Native.Nat.{ℕ, _+_, _≤_, _<_}
 use native.Mathlib.Omega.{arith}
 use native.Mathlib.Decide.{decLt}
-use lib.ListN.{length, getD, take, drop, replicate, length-replicate, length-take, length-drop, getD-replicate}
-use lib.Seq.{sets, length-sets, getD-take, getD-drop}
-use Rattle.cells.specs.Cells.{reached, cleared, copied, pushCells, replaceCells, hostCells, returnHostCells, setCell}
-use Rattle.cells.proofs.Runs.{sets-before, sets-behind, sets-in}
+use lib.ListN.{length, getD}
+use lib.Seq.{sets, length-sets}
+use Rattle.runs.specs.Runs.{cleared, copied}
+use Rattle.runs.proofs.Lists.{sets-before, sets-behind, sets-in, sets-beyond}
+use Rattle.runs.proofs.Runs.{length-cleared, cleared-in, cleared-kept, length-copied, copied-in, copied-kept}
+use Rattle.cells.specs.Cells.{reached, pushCells, replaceCells, hostCells, returnHostCells, setCell}
 
 -- ---- growth
 module _ (cells : List ℕ) (len new : ℕ) where
@@ -26,47 +28,6 @@ module _ (cells : List ℕ) (len new : ℕ) where
   pub length-reached : length (reached cells len new) ≡ length cells
   unfolding reached
   length-reached = refl
-
--- ---- cells cleared and cells copied, on which the rest is built
-module _ (cells : List ℕ) (from to : ℕ) where
-  length-cleared : length (cleared cells from to) ≡ length cells
-  unfolding cleared
-  length-cleared = length-sets cells from (replicate (to - from) 0)
-
-  cleared-in : (k : ℕ) → from ≤ k → k < to → k < length cells → getD (cleared cells from to) k 0 ≡ 0
-  unfolding cleared
-  cleared-in k h b w =
-      sets-in (replicate (to - from) 0) cells from (k - from) k (omega arith) (rw (length-replicate {A = ℕ} (to - from) 0) (omega arith)) w
-      ∙ getD-replicate (to - from) (k - from) 0 0 (omega arith)
-
-  cleared-kept : (k : ℕ) → (k < from) ⊎ (to ≤ k) → getD (cleared cells from to) k 0 ≡ getD cells k 0
-  unfolding cleared
-  cleared-kept k h = by (decLt k from)
-    where
-      behind : (k < from) ⊎ (to ≤ k) → (k < from → ⊥) → from + (to - from) ≤ k
-      behind (inl p) q = absurd (q p)
-      behind (inr p) q = omega arith
-
-      by : Dec (k < from) → getD (sets cells from (replicate (to - from) 0)) k 0 ≡ getD cells k 0
-      by (yes p) = sets-before (replicate (to - from) 0) cells from k p
-      by (no q) = sets-behind (replicate (to - from) 0) cells from k (rw (length-replicate {A = ℕ} (to - from) 0) (behind h q))
-
-module _ (cells : List ℕ) (from to n : ℕ) where
-  length-copied : length (copied cells from to n) ≡ length cells
-  unfolding copied
-  length-copied = length-sets cells to (take n (drop from cells))
-
-  copied-in : (k : ℕ) → k < n → to ≤ from → from + k < length cells → getD (copied cells from to n) (to + k) 0 ≡ getD cells (from + k) 0
-  unfolding copied
-  copied-in k b h w =
-      sets-in (take n (drop from cells)) cells to k (to + k) refl (rw (length-take n (drop from cells), length-drop from cells) (omega arith)) (omega arith)
-      ∙ getD-take n (drop from cells) k 0 b
-      ∙ getD-drop from cells k 0
-
-  copied-kept : (k : ℕ) → (k < to) ⊎ (to + n ≤ k) → getD (copied cells from to n) k 0 ≡ getD cells k 0
-  unfolding copied
-  copied-kept k (inl h) = sets-before (take n (drop from cells)) cells to k h
-  copied-kept k (inr h) = sets-behind (take n (drop from cells)) cells to k (rw (length-take n (drop from cells)) (omega arith))
 
 -- ---- push
 module _ (cells : List ℕ) (len new s params locals : ℕ) where
@@ -161,3 +122,8 @@ module _ (cells : List ℕ) (at v : ℕ) where
       by : Dec (k < at) → getD (sets cells at (v ∷ [])) k 0 ≡ getD cells k 0
       by (yes p) = sets-before (v ∷ []) cells at k p
       by (no q) = sets-behind (v ∷ []) cells at k (omega arith)
+
+  -- beyond the end there is nothing to set
+  pub set-beyond : length cells ≤ at → cells ≡ setCell cells at v
+  unfolding setCell
+  set-beyond h = sym (sets-beyond (v ∷ []) cells at h)

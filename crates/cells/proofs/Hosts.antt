@@ -4,7 +4,7 @@
 --     frame-sized                                   a frame that is not refused has both counts 0, or lies within the cells and has as many as its size
 --     empty-part, refused-part                      no cells: of a frame with both counts 0, and of one that is refused
 --     length-part, part-cell                        a part of a frame that is not refused: how many cells it has, and which
---     lent-back                                     (proofs/Runs.antt) the cells when a part comes back to whoever lent it: what they were, with that part replaced
+--     lent-back                                     (of runs, Lists.antt) the cells when a part comes back to whoever lent it: what they were, with that part replaced
 --     results-in, results-kept, length-results      the cells when a host's results are stored
 use mathlib.Core.Path.{_≡_, refl, sym, ap, _∙_}
 use mathlib.Core.Bool.{Bool, true, false, not, _&&_, _||_, true≢false}
@@ -21,7 +21,9 @@ use Rattle.choice.specs.Choose.{choose}
 use Rattle.choice.proofs.Bools.{second-holds, second-fails}
 use Rattle.cells.specs.declared.host.HostFrame.{HostFrame}
 use Rattle.cells.specs.Host.{hostSize, BadFrame, badHostFrame, hostPart, resultsStored}
-use Rattle.cells.proofs.Runs.{sets-before, sets-behind, sets-in, sets-beyond, part-there, values-back}
+use Rattle.runs.specs.Runs.{valuesPut}
+use Rattle.runs.proofs.Lists.{sets-before, sets-behind, sets-in, sets-beyond, part-there}
+use Rattle.runs.proofs.Runs.{values-back}
 use Rattle.cells.proofs.host.is_bad_host_frame.Reads as is-bad-host-frame
 
 -- ---- when 11 is given
@@ -141,7 +143,7 @@ module _ (cells : List ℕ) (len : ℕ) (f : HostFrame) (values : List ℕ) (t :
 
   pub results-back : t ≡ false → (k s : ℕ) (last : List ℕ) → f .start < length cells → s ≡ hostSize (f .params) (f .results)
       → k ≡ min s (length cells - f .start)
-      → last ≡ sets (take (f .start + k - f .start) (drop (f .start) cells)) 0 values
+      → last ≡ valuesPut (take (f .start + k - f .start) (drop (f .start) cells)) values
       → take (f .start) cells ++ (last ++ drop (f .start + k - f .start) (drop (f .start) cells)) ≡ resultsStored cells len f values
   unfolding resultsStored choose
   results-back h k s last b q c g = rw (← e, h) (values-back cells values last (f .start) k (hostSize (f .params) (f .results)) (omega arith) (c ∙ ap (λ s. min s (length cells - f .start)) q) g)

@@ -11,6 +11,7 @@ use Rattle.cells.proofs.effect.prepare_host_frame.Reads as prepare-host
 use Rattle.cells.proofs.effect.return_prepare_host_frame.Reads as return-prepare-host-frame
 use Rattle.cells.proofs.effect.set_cell.Reads as set-cell
 use Rattle.cells.proofs.host.is_bad_host_frame.Reads as is-bad-host-frame
+use Rattle.cells.proofs.host.host_size.Reads as host-size
 use Rattle.cells.proofs.host.host_params.Reads as host-params
 use Rattle.cells.proofs.host.host_results.Reads as host-results
 use Rattle.cells.proofs.host.store_results.Reads as store-results
@@ -35,6 +36,9 @@ set-cell-settled κ a r r′ e e′ p q = p ∙ sym q
 
 pub is-bad-host-frame-settled : Once is-bad-host-frame.Post
 is-bad-host-frame-settled κ a r r′ e e′ p q = p ∙ sym q
+
+pub host-size-settled : Once host-size.Post
+host-size-settled κ a r r′ e e′ p q = p ∙ sym q
 
 pub host-params-settled : OnceSeen host-params.Post (λ κ r e. now r)
 host-params-settled κ a r r′ e e′ p q = p ∙ sym q

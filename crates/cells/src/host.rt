@@ -4,8 +4,8 @@
 ghost use mathlib.Core.Path.{_≡_};
 ghost use Prim.Native.Nat.{_-_};
 ghost use Rattle.cells.specs.Host.{badHostFrame, hostSize, hostParams, hostResults, resultsStored};
-use crate::run::lesser;
-use crate::run::put_values;
+use runs::cells_there;
+use runs::put_values;
 
 // A host's frame: where its cells begin and end, and how many parameters and results it has.
 pub struct HostFrame {
@@ -29,7 +29,7 @@ pub fn is_bad_host_frame(frame: HostFrame, len: usize) -> bool
 }
 
 // How many cells a host needs: the greater of its two counts.
-fn host_size(params: u16, results: u16) -> usize
+pub fn host_size(params: u16, results: u16) -> usize
     ensures { λ r. ⌜ r ≡ hostSize params results ⌝ }
 {
     if params < results {
@@ -58,7 +58,7 @@ pub fn host_params(cells: &[u64], len: usize, frame: HostFrame) -> &[u64]
         return &cells[0..0];
     }
     let params = frame.params;
-    let end = start + lesser(params as usize, cells.len() - start);
+    let end = start + cells_there(cells.len(), start, params as usize);
     &cells[start..end]
 }
 
@@ -75,7 +75,7 @@ pub fn host_results(cells: &mut [u64], len: usize, frame: HostFrame) -> &mut [u6
     }
     let params = frame.params;
     let results = frame.results;
-    let end = start + lesser(host_size(params, results), cells.len() - start);
+    let end = start + cells_there(cells.len(), start, host_size(params, results));
     &mut cells[start..end]
 }
 
@@ -92,6 +92,6 @@ pub fn store_results(cells: &mut [u64], len: usize, frame: HostFrame, values: &[
     }
     let params = frame.params;
     let results = frame.results;
-    let end = start + lesser(host_size(params, results), cells.len() - start);
+    let end = start + cells_there(cells.len(), start, host_size(params, results));
     put_values(&mut cells[start..end], values);
 }

@@ -18,7 +18,6 @@ host-results-spec =
     (λ c. search needs)
     (λ c. search part-far)
     (λ c κs. search needs)
-    (λ c. search needs)
     (λ c κs. search needs)
     (λ c. search needs)
     (λ c. search needs)

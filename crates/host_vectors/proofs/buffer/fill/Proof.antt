@@ -1,0 +1,30 @@
+-- `host_vectors::buffer::fill` is safe and ends. The invariant of its loop: the length is kept. The measure is what is left. Assumes
+-- nothing.
+use mathlib.Core.Path.{_≡_, refl}
+use Prim.Native.Nat.{_-_}
+use borrow.Author.Needs.{needs}
+use lib.ListN.{length, length-set}
+use Rattle.host_vectors.proofs.buffer.fill.Statement.{statement}
+use Rattle.host_vectors.proofs.buffer.fill.Tie as tie
+
+abbrev Inv-loop : tie.InvT-loop
+Inv-loop cells₀ first i₀ cells i = length cells ≡ length cells₀
+
+abbrev μ-loop : tie.MeasureT-loop
+μ-loop cells₀ first i₀ cells i = length cells₀ - i
+
+pub fill-spec : {M : Type 1} → statement M
+fill-spec =
+    tie.close
+    (tie.spec
+    Inv-loop
+    μ-loop
+    (λ c. refl)
+    (λ c κs. search needs)
+    (λ c. search needs)
+    (λ c. search needs)
+    (λ c. search needs)
+    (λ c. search needs)
+    (λ c. simp length-set (search needs))
+    (λ c. search needs)
+    (λ c. search needs))

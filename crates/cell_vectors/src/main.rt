@@ -1,4 +1,4 @@
-// Runs the vectors of the cells. The expected lines (stdout) are worked out from document 01, items 3 and 'Steps', and 'Answer numbers'; none is
+// Runs the vectors of the cells. The expected lines (stdout) are worked out from document 01, item 3, 'Steps' and 'Answer numbers'; none is
 // taken from a run of this program.
 mod buffer;
 mod effects;

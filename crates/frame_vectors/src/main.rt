@@ -1,12 +1,9 @@
-// Runs the vectors of the frames: rows in words, the rules of a row, and debts. The expected lines (stdout) are worked out from document 01,
-// 'Numbers and buffers', 'Answer numbers' and 'Steps'; none is taken from a run of this program.
-mod debts;
-mod rows;
-mod rules;
+// Runs the vectors of the frames' rows, read and written. The expected lines (stdout) are worked out from document 01, 'Numbers and buffers';
+// none is taken from a run of this program.
 mod say;
+mod table;
+mod words;
 
 fn main() {
-    rows::run();
-    rules::run();
-    debts::run();
+    table::run();
 }

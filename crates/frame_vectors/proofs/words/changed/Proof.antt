@@ -1,15 +1,16 @@
--- `frame_vectors::rows::changed` is safe and ends: its index stays within the words. Assumes nothing.
-use Prim.Native.Nat.{_-_, _≤_}
+-- `frame_vectors::words::changed` is safe and ends. The invariant of its loop: it stays within the words. The measure is what is left.
+-- Assumes nothing.
+use Prim.Native.Nat.{_≤_, _-_}
 use borrow.Author.Needs.{needs}
 use lib.ListN.{length}
-use Rattle.frame_vectors.proofs.rows.changed.Statement.{statement}
-use Rattle.frame_vectors.proofs.rows.changed.Tie as tie
+use Rattle.frame_vectors.proofs.words.changed.Statement.{statement}
+use Rattle.frame_vectors.proofs.words.changed.Tie as tie
 
 abbrev Inv-loop : tie.InvT-loop
-Inv-loop words n₀ i₀ n i = i ≤ length words
+Inv-loop words i n₀ k₀ n k = k ≤ length words
 
 abbrev μ-loop : tie.MeasureT-loop
-μ-loop words n₀ i₀ n i = length words - i
+μ-loop words i n₀ k₀ n k = length words - k
 
 pub changed-spec : {M : Type 1} → statement M
 changed-spec =

@@ -3,6 +3,7 @@
 --     exactly-11                                    11 is given exactly when document 01 says so
 --     frame-sized                                   a frame that is not refused has both counts 0, or lies within the cells and has as many as its size
 --     empty-part, refused-part                      no cells: of a frame with both counts 0, and of one that is refused
+--     place-start                                   the part of a frame that is not refused begins at its start
 --     length-part, part-cell                        a part of a frame that is not refused: how many cells it has, and which
 --     lent-back                                     (of runs, Lists.antt) the cells when a part comes back to whoever lent it: what they were, with that part replaced
 --     results-in, results-kept, length-results      the cells when a host's results are stored
@@ -16,11 +17,11 @@ use native.Mathlib.Decide.{decLe, ℕ-discrete}
 use lib.ListN.{length, getD, take, drop, length-take, length-drop, drop-of-length-le}
 use lib.Seq.{sets, length-sets, take-nil, getD-take, getD-drop, length-take-le}
 use lib.Dec.{ltb, eqb}
-use borrow.Author.Tests.{lt-ltb, le-ltb, eq-eqb, ne-eqb}
+use borrow.Author.Tests.{lt-ltb, le-ltb, eq-eqb, ne-eqb, le-leb, lt-leb}
 use Rattle.choice.specs.Choose.{choose}
 use Rattle.choice.proofs.Bools.{second-holds, second-fails}
 use Rattle.cells.specs.declared.host.HostFrame.{HostFrame}
-use Rattle.cells.specs.Host.{hostSize, BadFrame, badHostFrame, hostPart, resultsStored}
+use Rattle.cells.specs.Host.{hostSize, BadFrame, badHostFrame, hostPart, resultsStored, hostPlace, cellPlace}
 use Rattle.runs.specs.Runs.{valuesPut}
 use Rattle.runs.proofs.Lists.{sets-before, sets-behind, sets-in, sets-beyond, part-there}
 use Rattle.runs.proofs.Runs.{values-back}
@@ -130,6 +131,24 @@ module _ (cells : List ℕ) (len : ℕ) (f : HostFrame) (n : ℕ) (t : Bool) (e 
   part-lent h k s q c =
       let size : f .start + k - f .start ≡ k = omega arith in
       rw (← e, h, size, c, q) (part-there n (f .start) cells)
+
+-- ---- where it begins, in a buffer that lies at p
+module _ (cells : List ℕ) (len : ℕ) (f : HostFrame) (p : ℕ × ℕ) (t : Bool) (e : t ≡ badHostFrame f len) where
+  pub place-refused : t ≡ true → cellPlace p 0 ≡ cellPlace p (hostPlace cells len f)
+  unfolding hostPlace choose
+  place-refused h = rw (← e, h)
+
+  pub place-far : t ≡ false → length cells ≤ f .start → cellPlace p 0 ≡ cellPlace p (hostPlace cells len f)
+  unfolding hostPlace choose
+  place-far h far = rw (← e, h, le-leb _ _ far)
+
+  pub place-lent : t ≡ false → f .start < length cells → cellPlace p (f .start) ≡ cellPlace p (hostPlace cells len f)
+  unfolding hostPlace choose
+  place-lent h b = rw (← e, h, lt-leb _ _ b)
+
+pub place-start : (cells : List ℕ) (len : ℕ) (f : HostFrame) → badHostFrame f len ≡ false → f .start < length cells → hostPlace cells len f ≡ f .start
+unfolding hostPlace choose
+place-start cells len f e b = rw (e, lt-leb _ _ b)
 
 -- ---- the cells when the part is back
 module _ (cells : List ℕ) (len : ℕ) (f : HostFrame) (values : List ℕ) (t : Bool) (e : t ≡ badHostFrame f len) where

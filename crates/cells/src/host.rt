@@ -3,7 +3,7 @@
 // holds `len` to the buffer.
 ghost use mathlib.Core.Path.{_≡_};
 ghost use Prim.Native.Nat.{_-_};
-ghost use Rattle.cells.specs.Host.{badHostFrame, hostSize, hostParams, hostResults, resultsStored};
+ghost use Rattle.cells.specs.Host.{badHostFrame, hostSize, hostPlace, hostParams, hostResults, LentFrom, resultsStored};
 use runs::cells_there;
 use runs::put_values;
 
@@ -48,7 +48,7 @@ fn difference(a: usize, b: usize) -> usize
 
 // The host's parameters: the part that begins at its start. Empty where its frame is refused.
 pub fn host_params(cells: &[u64], len: usize, frame: HostFrame) -> &[u64]
-    ensures { λ r. ⌜ now r ≡ hostParams (now (cells .entry)) len frame ⌝ }
+    ensures { λ r. ⌜ LentFrom (cells .entry) r (hostPlace (now (cells .entry)) len frame) (hostParams (now (cells .entry)) len frame) ⌝ }
 {
     if is_bad_host_frame(frame, len) {
         return &cells[0..0];
@@ -64,7 +64,7 @@ pub fn host_params(cells: &[u64], len: usize, frame: HostFrame) -> &[u64]
 
 // The cells that the host's results go into: the part from its start to its end. Empty where its frame is refused.
 pub fn host_results(cells: &mut [u64], len: usize, frame: HostFrame) -> &mut [u64]
-    ensures { λ r. ⌜ now r ≡ hostResults (now (cells .entry)) len frame ⌝ }
+    ensures { λ r. ⌜ LentFrom (cells .entry) r (hostPlace (now (cells .entry)) len frame) (hostResults (now (cells .entry)) len frame) ⌝ }
 {
     if is_bad_host_frame(frame, len) {
         return &mut cells[0..0];

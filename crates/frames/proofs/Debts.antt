@@ -5,6 +5,8 @@
 --     judged-good                          a row breaks no rule exactly when its start is at most len, its flag at most 1, and its debt 0 if its flag is 0
 --     new-good, longer-good                a row made with a start within the cells breaks no rule, and none does by growth
 --     remade                               a row that breaks no rule is the one made of its ip, its start and its debt
+--     owing-none, owing-unnamed, owing-same, owing-other      when a frame that is pushed owes, and what
+--     carried-kept, carried-none           of a frame that is replaced: its own debt, else as of one that is pushed
 --     repaid, repaid-over                  of a current instance: what naming one leaves owing is made good by the debt, also where an older one is kept
 use mathlib.Core.Path.{_≡_, refl, sym, ap}
 use mathlib.Core.Bool.{Bool, true, false, not, _&&_, true≢false}
@@ -12,7 +14,7 @@ use mathlib.Core.Logic.{_↔_}
 use Prim.Native.Nat.{ℕ, zero, suc, _≤_}
 use native.Mathlib.Omega.{arith}
 use lib.Dec.{ltb, eqb}
-use borrow.Author.Tests.{le-ltb, ltb-false, eq-eqb, eqb-true}
+use borrow.Author.Tests.{le-ltb, ltb-false, eq-eqb, eqb-true, ne-eqb}
 use Rattle.choice.specs.Choose.{choose}
 use Rattle.choice.proofs.Bools.{neither, both-fail, unless}
 use Rattle.given.specs.declared.Given.{Given}
@@ -98,6 +100,37 @@ remade row len e = by (row .flag) refl (told-good row len e)
         let one : row .flag ≡ 1 = omega arith in
         let some : debtOf row ≡ Value (row .debt) = rw one in
         rw some (λ t. record { ip = row .ip; start = row .start; flag = sym one t; debt = row .debt })
+
+-- ---- what is owed
+module _ (c : Given) where
+  pub owing-unnamed : owingOf c Absent ≡ Absent
+  unfolding owingOf
+  owing-unnamed = by c
+    where
+      by : (g : Given) → owingOf g Absent ≡ Absent
+      by Absent = refl
+      by (Value a) = refl
+
+  pub owing-none : owingOf Absent c ≡ Absent
+  unfolding owingOf
+  owing-none = refl
+
+pub owing-same : (a : ℕ) → owingOf (Value a) (Value a) ≡ Absent
+unfolding owingOf choose
+owing-same a = rw (eq-eqb a a refl)
+
+pub owing-other : (a b : ℕ) → (a ≡ b → ⊥) → owingOf (Value a) (Value b) ≡ Value a
+unfolding owingOf choose
+owing-other a b n = rw (ne-eqb a b n)
+
+module _ (current named : Given) where
+  pub carried-kept : (a : ℕ) → carriedOf (Value a) current named ≡ Value a
+  unfolding carriedOf
+  carried-kept a = refl
+
+  pub carried-none : carriedOf Absent current named ≡ owingOf current named
+  unfolding carriedOf
+  carried-none = refl
 
 -- ---- debts repaid
 pub repaid : (current named : Given) → isGiven current ≡ true → givenOrElse (owingOf current named) (givenOrElse named current) ≡ current

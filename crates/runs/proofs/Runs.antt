@@ -21,6 +21,10 @@ module _ (cells : List ℕ) (from to : ℕ) where
       sets-in (replicate (to - from) 0) cells from (k - from) k (omega arith) (rw (length-replicate {A = ℕ} (to - from) 0) (omega arith)) w
       ∙ getD-replicate (to - from) (k - from) 0 0 (omega arith)
 
+  pub cleared-none : to ≤ from → cleared cells from to ≡ cells
+  unfolding cleared
+  cleared-none h = let none : to - from ≡ 0 = omega arith in rw none
+
   pub cleared-kept : (k : ℕ) → (k < from) ⊎ (to ≤ k) → getD (cleared cells from to) k 0 ≡ getD cells k 0
   unfolding cleared
   cleared-kept k h = by (decLt k from)
@@ -49,6 +53,10 @@ module _ (cells : List ℕ) (from to n : ℕ) where
   unfolding copied
   copied-kept k (inl h) = sets-before (take n (drop from cells)) cells to k h
   copied-kept k (inr h) = sets-behind (take n (drop from cells)) cells to k (rw (length-take n (drop from cells)) (omega arith))
+
+pub copied-none : (cells : List ℕ) (from to : ℕ) → copied cells from to 0 ≡ cells
+unfolding copied
+copied-none cells from to = refl
 
 -- a part that was lent, had values put into it, and came back: n at most, and no more than it has room for
 pub values-back : (l vs last : List ℕ) (a k n : ℕ) → a ≤ length l → k ≡ min n (length l - a) → last ≡ valuesPut (take (a + k - a) (drop a l)) vs

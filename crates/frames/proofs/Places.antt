@@ -4,6 +4,7 @@ use mathlib.Core.Bool.{Bool, true, false, true≢false}
 use mathlib.Core.List.{List}
 use Prim.Native.Nat.{ℕ, _*_, _/_, _≤_, _<_}
 use native.Mathlib.Omega.{arith}
+use native.Mathlib.Nat.{add-zero}
 use native.Mathlib.Decide.{decLt}
 use lib.ListN.{length, getD}
 use lib.Dec.{leb, ltb}
@@ -18,6 +19,10 @@ place-apart D i j k m hi hj hk hm e = (omega arith, omega arith)
 
 pub place-within : (D i k : ℕ) → i < D → k < rowWords → wordPlace D i k < rowWords * D
 place-within D i k hi hk = omega arith
+
+-- the first word of a row, as the code has its place
+pub first-place : (D i : ℕ) → rowWords * i ≡ wordPlace D i 0
+first-place D i = sym (add-zero (rowWords * i))
 
 -- ---- the words that are enough for D frames
 module _ (n D : ℕ) where

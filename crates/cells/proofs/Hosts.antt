@@ -4,26 +4,27 @@
 --     frame-sized                                   a frame that is not refused has both counts 0, or lies within the cells and has as many as its size
 --     empty-part, refused-part                      no cells: of a frame with both counts 0, and of one that is refused
 --     place-start                                   the part of a frame that is not refused begins at its start
+--     results-to-end                                the part for its results lies from its start to its end
 --     length-part, part-cell                        a part of a frame that is not refused: how many cells it has, and which
 --     lent-back                                     (of runs, Lists.antt) the cells when a part comes back to whoever lent it: what they were, with that part replaced
 --     results-in, results-kept, length-results      the cells when a host's results are stored
 use mathlib.Core.Path.{_≡_, refl, sym, ap, _∙_}
-use mathlib.Core.Bool.{Bool, true, false, not, _&&_, _||_, true≢false}
+use mathlib.Core.Bool.{Bool, true, false, not, _&&_, _||_, true≢false, and-false, or-true}
 use mathlib.Core.Logic.{_↔_, _≢_, _⊎_, inl, inr}
 use mathlib.Core.List.{List, [], _++_}
 use Prim.Native.Nat.{ℕ, _+_, _-_, _≤_, _<_, min}
 use native.Mathlib.Omega.{arith}
 use native.Mathlib.Decide.{decLe, ℕ-discrete}
-use lib.ListN.{length, getD, take, drop, length-take, length-drop, drop-of-length-le}
-use lib.Seq.{sets, length-sets, take-nil, getD-take, getD-drop, length-take-le}
+use lib.ListN.{length, getD, take, drop, length-take, drop-of-length-le}
+use lib.Seq.{sets, length-sets, take-nil, getD-take, getD-drop}
 use lib.Dec.{ltb, eqb}
 use borrow.Author.Tests.{lt-ltb, le-ltb, eq-eqb, ne-eqb, le-leb, lt-leb}
 use Rattle.choice.specs.Choose.{choose}
-use Rattle.choice.proofs.Bools.{second-holds, second-fails}
+use Rattle.choice.proofs.Choices.{chosen-either}
 use Rattle.cells.specs.declared.host.HostFrame.{HostFrame}
-use Rattle.cells.specs.Host.{hostSize, BadFrame, badHostFrame, hostPart, resultsStored, hostPlace, cellPlace}
+use Rattle.cells.specs.Host.{hostSize, BadFrame, badHostFrame, hostPart, hostResults, resultsStored, hostPlace, cellPlace}
 use Rattle.runs.specs.Runs.{valuesPut}
-use Rattle.runs.proofs.Lists.{sets-before, sets-behind, sets-in, sets-beyond, part-there}
+use Rattle.runs.proofs.Lists.{sets-before, sets-behind, sets-in, sets-beyond, length-within, part-there}
 use Rattle.runs.proofs.Runs.{values-back}
 use Rattle.cells.proofs.host.is_bad_host_frame.Reads as is-bad-host-frame
 
@@ -38,42 +39,43 @@ module _ (f : HostFrame) (len : ℕ) where
     sized : f .end ≤ len → f .start ≤ f .end → f .end - f .start ≡ size → FrameSized
 
   sized-or-not : FrameSized ⊎ BadFrame f len
-  sized-or-not = by (ℕ-discrete (f .params) 0) (ℕ-discrete (f .results) 0) (decLe (f .end) len) (decLe (f .start) (f .end)) (ℕ-discrete (f .end - f .start) size)
+  sized-or-not = by (decLe (f .end) len) (decLe (f .start) (f .end)) (ℕ-discrete (f .end - f .start) size) (ℕ-discrete (f .params) 0) (ℕ-discrete (f .results) 0)
     where
-      bad : (size ≢ 0) → Dec (f .end ≤ len) → Dec (f .start ≤ f .end) → Dec (f .end - f .start ≡ size) → FrameSized ⊎ BadFrame f len
-      bad n (no p) d e = inr (n, inl (omega arith))
-      bad n (yes p) (no q) e = inr (n, inr (inl (omega arith)))
-      bad n (yes p) (yes q) (no r) = inr (n, inr (inr r))
-      bad n (yes p) (yes q) (yes r) = inl (sized p q r)
+      Cause : Type 0
+      Cause = (len < f .end) ⊎ ((f .end < f .start) ⊎ (f .end - f .start ≢ size))
 
-      by : Dec (f .params ≡ 0) → Dec (f .results ≡ 0) → Dec (f .end ≤ len) → Dec (f .start ≤ f .end) → Dec (f .end - f .start ≡ size)
+      unless-empty : Cause → Dec (f .params ≡ 0) → Dec (f .results ≡ 0) → FrameSized ⊎ BadFrame f len
+      unless-empty c (yes p) (yes q) = inl (no-cells p q)
+      unless-empty c (yes p) (no q) = inr (c, λ z. q (z .1))
+      unless-empty c (no p) d = inr (c, λ z. p (z .0))
+
+      by : Dec (f .end ≤ len) → Dec (f .start ≤ f .end) → Dec (f .end - f .start ≡ size) → Dec (f .params ≡ 0) → Dec (f .results ≡ 0)
           → FrameSized ⊎ BadFrame f len
-      by (yes p) (yes q) c d e = inl (no-cells p q)
-      by (no p) q c d e = bad (λ z. p (omega arith)) c d e
-      by (yes p) (no q) c d e = bad (λ z. q (omega arith)) c d e
+      by (yes p) (yes q) (yes r) c d = inl (sized p q r)
+      by (yes p) (yes q) (no r) c d = unless-empty (inr (inr r)) c d
+      by (yes p) (no q) e c d = unless-empty (inr (inl (omega arith))) c d
+      by (no p) q e c d = unless-empty (inl (omega arith)) c d
 
   told-sized : FrameSized → badHostFrame f len ≡ false
   unfolding badHostFrame
-  told-sized (no-cells p q) = rw (eq-eqb (f .params) 0 p, eq-eqb (f .results) 0 q)
-  told-sized (sized p q r) =
-      rw (le-ltb len (f .end) p, le-ltb (f .end) (f .start) q, eq-eqb (f .end - f .start) size r)
-      (second-fails (not (eqb (f .params) 0 && eqb (f .results) 0)) false refl)
+  told-sized (no-cells p q) =
+      rw (eq-eqb (f .params) 0 p, eq-eqb (f .results) 0 q)
+      (and-false (ltb len (f .end) || (ltb (f .end) (f .start) || not (eqb (f .end - f .start) size))))
+  told-sized (sized p q r) = rw (le-ltb len (f .end) p, le-ltb (f .end) (f .start) q, eq-eqb (f .end - f .start) size r)
 
   told-bad : BadFrame f len → badHostFrame f len ≡ true
   unfolding badHostFrame
-  told-bad h = rw (counts (ℕ-discrete (f .params) 0)) (cause (h .1))
+  told-bad h = rw (cause (h .0)) (ap not (counts (ℕ-discrete (f .params) 0)))
     where
       counts : Dec (f .params ≡ 0) → (eqb (f .params) 0 && eqb (f .results) 0) ≡ false
-      counts (yes p) = second-fails (eqb (f .params) 0) (eqb (f .results) 0) (ne-eqb (f .results) 0 (λ q. h .0 (omega arith)))
+      counts (yes p) = rw (ne-eqb (f .results) 0 (λ q. h .1 (p, q))) (and-false (eqb (f .params) 0))
       counts (no p) = rw (ne-eqb (f .params) 0 p)
 
       cause : (len < f .end) ⊎ ((f .end < f .start) ⊎ (f .end - f .start ≢ size))
           → (ltb len (f .end) || (ltb (f .end) (f .start) || not (eqb (f .end - f .start) size))) ≡ true
       cause (inl p) = rw (lt-ltb len (f .end) p)
-      cause (inr (inl p)) = rw (lt-ltb (f .end) (f .start) p) (second-holds (ltb len (f .end)) true refl)
-      cause (inr (inr p)) =
-          rw (ne-eqb (f .end - f .start) size p)
-          (second-holds (ltb len (f .end)) (ltb (f .end) (f .start) || true) (second-holds (ltb (f .end) (f .start)) true refl))
+      cause (inr (inl p)) = rw (lt-ltb (f .end) (f .start) p) (or-true (ltb len (f .end)))
+      cause (inr (inr p)) = rw (ne-eqb (f .end - f .start) size p, or-true (ltb (f .end) (f .start))) (or-true (ltb len (f .end)))
 
   pub frame-sized : badHostFrame f len ≡ false ↔ FrameSized
   frame-sized = (from sized-or-not, told-sized)
@@ -92,12 +94,8 @@ module _ (f : HostFrame) (len : ℕ) where
 
 -- ---- no part: of a frame with both counts 0, and of one that is refused
 pub empty-part : (cells : List ℕ) (len : ℕ) (f : HostFrame) → hostPart cells len f 0 ≡ []
-unfolding hostPart choose
-empty-part cells len f = by (badHostFrame f len)
-  where
-    by : (t : Bool) → choose t [] (take 0 (drop (f .start) cells)) ≡ []
-    by true = refl
-    by false = refl
+unfolding hostPart
+empty-part cells len f = chosen-either (badHostFrame f len) []
 
 pub refused-part : (cells : List ℕ) (len : ℕ) (f : HostFrame) (n : ℕ) → badHostFrame f len ≡ true → hostPart cells len f n ≡ []
 unfolding hostPart choose
@@ -110,27 +108,33 @@ module _ (cells : List ℕ) (len : ℕ) (f : HostFrame) (n : ℕ) (e : badHostFr
   accepted-part = rw e
 
   pub length-part : f .start + n ≤ length cells → length (hostPart cells len f n) ≡ n
-  length-part h = ap length accepted-part ∙ length-take-le n (drop (f .start) cells) (rw (length-drop (f .start) cells) (omega arith))
+  length-part h = ap length accepted-part ∙ length-within n (f .start) cells h
 
   pub part-cell : (k : ℕ) → k < n → getD (hostPart cells len f n) k 0 ≡ getD cells (f .start + k) 0
   part-cell k b = ap (λ p. getD p k 0) accepted-part ∙ getD-take n (drop (f .start) cells) k 0 b ∙ getD-drop (f .start) cells k 0
 
+-- its results go into the part from its start to its end
+pub results-to-end : (cells : List ℕ) (len : ℕ) (f : HostFrame) → f .end ≤ len → f .start ≤ f .end → f .end - f .start ≡ hostSize (f .params) (f .results)
+    → hostResults cells len f ≡ take (f .end - f .start) (drop (f .start) cells)
+results-to-end cells len f p q r = rw r (accepted-part cells len f (hostSize (f .params) (f .results)) (told-sized f len (sized p q r)))
+
 -- ---- a part, where t is the judgement of its frame
 module _ (cells : List ℕ) (len : ℕ) (f : HostFrame) (n : ℕ) (t : Bool) (e : t ≡ badHostFrame f len) where
   pub part-refused : t ≡ true → [] ≡ hostPart cells len f n
-  unfolding hostPart choose
-  part-refused h = rw (← e, h)
+  part-refused h = sym (refused-part cells len f n (sym e ∙ h))
 
   pub part-far : t ≡ false → length cells ≤ f .start → [] ≡ hostPart cells len f n
-  unfolding hostPart choose
-  part-far h far = rw (← e, h, drop-of-length-le cells far) (sym (take-nil {A = ℕ} n))
+  part-far h far = rw (accepted-part cells len f n (sym e ∙ h), drop-of-length-le cells far) (sym (take-nil {A = ℕ} n))
 
   pub part-lent : t ≡ false → (k s : ℕ) → s ≡ n → k ≡ min s (length cells - f .start)
       → take (f .start + k - f .start) (drop (f .start) cells) ≡ hostPart cells len f n
-  unfolding hostPart choose
   part-lent h k s q c =
       let size : f .start + k - f .start ≡ k = omega arith in
-      rw (← e, h, size, c, q) (part-there n (f .start) cells)
+      rw (accepted-part cells len f n (sym e ∙ h), size, c, q) (part-there n (f .start) cells)
+
+pub place-start : (cells : List ℕ) (len : ℕ) (f : HostFrame) → badHostFrame f len ≡ false → f .start < length cells → hostPlace cells len f ≡ f .start
+unfolding hostPlace choose
+place-start cells len f e b = rw (e, lt-leb _ _ b)
 
 -- ---- where it begins, in a buffer that lies at p
 module _ (cells : List ℕ) (len : ℕ) (f : HostFrame) (p : ℕ × ℕ) (t : Bool) (e : t ≡ badHostFrame f len) where
@@ -143,12 +147,7 @@ module _ (cells : List ℕ) (len : ℕ) (f : HostFrame) (p : ℕ × ℕ) (t : Bo
   place-far h far = rw (← e, h, le-leb _ _ far)
 
   pub place-lent : t ≡ false → f .start < length cells → cellPlace p (f .start) ≡ cellPlace p (hostPlace cells len f)
-  unfolding hostPlace choose
-  place-lent h b = rw (← e, h, lt-leb _ _ b)
-
-pub place-start : (cells : List ℕ) (len : ℕ) (f : HostFrame) → badHostFrame f len ≡ false → f .start < length cells → hostPlace cells len f ≡ f .start
-unfolding hostPlace choose
-place-start cells len f e b = rw (e, lt-leb _ _ b)
+  place-lent h b = ap (cellPlace p) (sym (place-start cells len f (sym e ∙ h) b))
 
 -- ---- the cells when the part is back
 module _ (cells : List ℕ) (len : ℕ) (f : HostFrame) (values : List ℕ) (t : Bool) (e : t ≡ badHostFrame f len) where

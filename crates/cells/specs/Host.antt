@@ -25,15 +25,15 @@ hostSize params results = max params results
 -- document 01's words
 abbrev pub BadFrame : HostFrame → (len : ℕ) → Type 0
 BadFrame f len =
-    (hostSize (f .params) (f .results) ≢ 0)
-    × ((len < f .end) ⊎ ((f .end < f .start) ⊎ (f .end - f .start ≢ hostSize (f .params) (f .results))))
+    ((len < f .end) ⊎ ((f .end < f .start) ⊎ (f .end - f .start ≢ hostSize (f .params) (f .results))))
+    × ((f .params ≡ 0) × (f .results ≡ 0) → ⊥)
 
 unfoldable pub badHostFrame : HostFrame → (len : ℕ) → Bool
 badHostFrame f len =
-    not (eqb (f .params) 0 && eqb (f .results) 0)
-    && (ltb len (f .end)
+    (ltb len (f .end)
     || (ltb (f .end) (f .start)
     || not (eqb (f .end - f .start) (hostSize (f .params) (f .results)))))
+    && not (eqb (f .params) 0 && eqb (f .results) 0)
 
 unfoldable pub hostPart : List ℕ → (len : ℕ) → HostFrame → (n : ℕ) → List ℕ
 hostPart cells len f n = choose (badHostFrame f len) [] (take n (drop (f .start) cells))

@@ -25,7 +25,7 @@ pub fn is_bad_host_frame(frame: HostFrame, len: usize) -> bool
     let results = frame.results;
     let size = host_size(params, results);
     let gap = difference(end, start);
-    !((params == 0) & (results == 0)) & ((len < end) | ((end < start) | (gap != size)))
+    ((len < end) | ((end < start) | (gap != size))) & !((params == 0) & (results == 0))
 }
 
 // How many cells a host needs: the greater of its two counts.

@@ -1,12 +1,18 @@
 -- The laws by which `search choices` follows a chain of choices to the value that the code returned. Of each test that code makes there are
 -- two: one where it held, one where it failed. A law's premises are what the code knows, in the form in which it knows it, and that the
 -- value is the chosen one. Every argument is explicit, since `search` fills them and antt finds none under `choose`. Assumes nothing.
-use mathlib.Core.Path.{_≡_, sym, _∙_}
+use mathlib.Core.Path.{_≡_, refl, sym, _∙_}
 use mathlib.Core.Bool.{Bool, true, false, not}
 use Prim.Native.Nat.{ℕ, _≤_, _<_}
 use lib.Dec.{ltb, leb, eqb}
 use borrow.Author.Tests.{lt-ltb, le-ltb, le-leb, lt-leb, eq-eqb, ne-eqb, not-true, not-false}
 use Rattle.choice.specs.Choose.{choose}
+
+-- where both are one value, whichever is chosen
+pub chosen-either : {A : Type 0} (t : Bool) (a : A) → choose t a a ≡ a
+unfolding choose
+chosen-either true a = refl
+chosen-either false a = refl
 
 module _ (A : Type 0) (v a b : A) where
   pub chosen-first : (t : Bool) → t ≡ true → v ≡ a → v ≡ choose t a b

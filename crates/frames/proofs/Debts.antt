@@ -16,7 +16,7 @@ use native.Mathlib.Omega.{arith}
 use lib.Dec.{ltb, eqb}
 use borrow.Author.Tests.{le-ltb, ltb-false, eq-eqb, eqb-true, ne-eqb}
 use Rattle.choice.specs.Choose.{choose}
-use Rattle.choice.proofs.Bools.{neither, both-fail, unless}
+use Rattle.choice.proofs.Bools.{neither, unless}
 use Rattle.given.specs.declared.Given.{Given}
 use Rattle.given.specs.declared.Given.the-variants.{Absent, Value}
 use Rattle.given.specs.Given.{isGiven, givenOrElse}
@@ -67,8 +67,7 @@ module _ (row : Row) (len : ℕ) where
 
   good-told : GoodRow row len → brokenRow row len ≡ false
   unfolding brokenRow
-  good-told g = both-fail (ltb len (row .start)) _ (le-ltb len (row .start) (g .start-within))
-      (both-fail (ltb 1 (row .flag)) _ (le-ltb 1 (row .flag) (g .flag-small)) (by (eqb (row .flag) 0) refl))
+  good-told g = rw (le-ltb len (row .start) (g .start-within), le-ltb 1 (row .flag) (g .flag-small)) (by (eqb (row .flag) 0) refl)
     where
       by : (t : Bool) → eqb (row .flag) 0 ≡ t → (t && not (eqb (row .debt) 0)) ≡ false
       by true e = rw (eq-eqb (row .debt) 0 (g .debt-flagged (eqb-true (row .flag) 0 e)))

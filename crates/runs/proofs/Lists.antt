@@ -7,7 +7,7 @@ use native.Mathlib.Omega.{arith}
 use native.Mathlib.Nat.{add-zero}
 use native.Mathlib.Decide.{decLe}
 use lib.ListN.{length, getD, set, take, drop, length-set, length-drop, drop-of-length-le}
-use lib.Seq.{sets, sets-eq, set-out, getD-set-same, getD-set-other, drop-drop, drop-set-lt, take-all, take-length}
+use lib.Seq.{sets, sets-eq, set-out, getD-set-same, getD-set-other, drop-drop, drop-set-lt, take-all, take-length, length-take-le}
 
 -- ---- where a cell of the list stands
 pub sets-before : (vs l : List ℕ) (i k : ℕ) → k < i → getD (sets l i vs) k 0 ≡ getD l k 0
@@ -54,7 +54,10 @@ lent-back l ys a k h e =
     ∙ sym (append-assoc (take a l) ys (drop (a + length ys) l))
     ∙ sym (sets-eq ys l a (omega arith))
 
--- ---- as many as there are
+-- ---- a part that lies within, and as many as there are
+pub length-within : (n a : ℕ) (l : List ℕ) → a + n ≤ length l → length (take n (drop a l)) ≡ n
+length-within n a l h = length-take-le n (drop a l) (rw (length-drop a l) (omega arith))
+
 pub take-there : (n : ℕ) (l : List ℕ) → take (min n (length l)) l ≡ take n l
 take-there n l = by (decLe n (length l))
   where

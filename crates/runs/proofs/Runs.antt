@@ -6,9 +6,9 @@ use Prim.Native.Nat.{ℕ, _+_, _-_, _≤_, _<_, min}
 use native.Mathlib.Omega.{arith}
 use native.Mathlib.Decide.{decLt}
 use lib.ListN.{length, getD, take, drop, replicate, length-replicate, length-take, length-drop, getD-replicate}
-use lib.Seq.{sets, length-sets, length-take-le, getD-take, getD-drop, ext-getD}
+use lib.Seq.{sets, length-sets, getD-take, getD-drop, ext-getD}
 use Rattle.runs.specs.Runs.{cleared, copied, valuesPut}
-use Rattle.runs.proofs.Lists.{sets-before, sets-behind, sets-in, lent-back}
+use Rattle.runs.proofs.Lists.{sets-before, sets-behind, sets-in, lent-back, length-within}
 
 module _ (cells : List ℕ) (from to : ℕ) where
   pub length-cleared : length (cleared cells from to) ≡ length cells
@@ -70,7 +70,7 @@ values-back l vs last a k n h c g =
     part = take k (drop a l)
 
     part-long : length part ≡ k
-    part-long = length-take-le k (drop a l) (rw (length-drop a l) (omega arith))
+    part-long = length-within k a l (omega arith)
 
     held : last ≡ sets part 0 vs
     held = let size : a + k - a ≡ k = omega arith in rw size at g

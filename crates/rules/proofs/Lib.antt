@@ -1,0 +1,10 @@
+pub mod Bounds
+pub mod Cases
+pub mod GoodStates
+pub mod Judgements
+pub mod Kept
+pub mod OneAnswer
+pub mod Reached
+pub mod SoundMoves
+pub mod Soundness
+pub mod Verdicts

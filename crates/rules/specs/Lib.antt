@@ -1,0 +1,14 @@
+pub mod Answers
+pub mod Broken
+pub mod Calls
+pub mod Cases
+pub mod Events
+pub mod Hosts
+pub mod Open
+pub mod Reached
+pub mod ReachedWorlds
+pub mod Returns
+pub mod Rules
+pub mod Sound
+pub mod Syncs
+pub mod World

@@ -1,0 +1,9 @@
+-- `stack::setting::set_in` meets its contract: what its calls ensure. Assumes nothing.
+use borrow.Author.Needs.{needs}
+use Rattle.rules.specs.Syncs.{cellSet}
+use Rattle.stack.proofs.setting.set_in.Statement.{statement}
+use Rattle.stack.proofs.setting.set_in.Tie as tie
+
+pub set-in-spec : {M : Type 1} → statement M
+unfolding cellSet
+set-in-spec = tie.close (tie.spec (λ c κs. search needs) (λ c κs. search needs) (λ c κs. search needs) (λ c. search needs) (λ c. cc))

@@ -1,0 +1,19 @@
+-- `stack::syncing::sync_ip` meets its contract: a refusal, or the step in the room that was judged. Assumes nothing.
+use borrow.Author.Needs.{needs}
+use Rattle.rules.proofs.Judgements.{refused-answer, accepted-answer}
+use Rattle.stack.proofs.syncing.sync_ip.Statement.{statement}
+use Rattle.stack.proofs.syncing.sync_ip.Tie as tie
+
+pub sync-ip-spec : {M : Type 1} → statement M
+sync-ip-spec =
+    tie.close
+    (tie.spec
+    (λ c κs. search needs)
+    (λ c. search needs)
+    (λ c κs. search needs)
+    (λ c. search needs)
+    (λ c κs. search needs)
+    (λ c. search needs)
+    (λ c. refused-answer _ _ _ (c .before .before .before .before .judge-sync .ensures) _ _ (c .before .before .why .given .1) (c .refused .ensures))
+    (λ c. search needs)
+    (λ c. accepted-answer _ _ _ (c .before .before .before .before .before .before .before .judge-sync .ensures) _ _ (c .before .before .before .before .before .room .given .1) (c .before .before .synced-in .ensures)))

@@ -1,0 +1,9 @@
+-- `stack::syncing::synced_in` meets its contract: what its calls ensure. Assumes nothing.
+use borrow.Author.Needs.{needs}
+use Rattle.rules.specs.Syncs.{synced}
+use Rattle.stack.proofs.syncing.synced_in.Statement.{statement}
+use Rattle.stack.proofs.syncing.synced_in.Tie as tie
+
+pub synced-in-spec : {M : Type 1} → statement M
+unfolding synced
+synced-in-spec = tie.close (tie.spec (λ c κs. search needs) (λ c κs. search needs) (λ c κs. search needs) (λ c. search needs) (λ c. cc))

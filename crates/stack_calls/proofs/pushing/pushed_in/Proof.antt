@@ -1,0 +1,24 @@
+-- `stack_calls::pushing::pushed_in` meets its contract: what its calls ensure, part by part. Assumes nothing.
+use borrow.Author.Needs.{needs}
+use mathlib.Core.Path.{sym}
+use Rattle.rules.specs.Calls.{pushed}
+use Rattle.rules.proofs.OneAnswer.{after-same}
+use Rattle.stack_calls.proofs.pushing.pushed_in.Statement.{statement}
+use Rattle.stack_calls.proofs.pushing.pushed_in.Tie as tie
+
+pub pushed-in-spec : {M : Type 1} → statement M
+unfolding pushed
+pushed-in-spec =
+    tie.close
+    (tie.spec
+    (λ c κs. search needs)
+    (λ c κs. search needs)
+    (λ c κs. search needs)
+    (λ c κs. search needs)
+    (λ c κs. search needs)
+    (λ c κs. search needs)
+    (λ c κs. search needs)
+    (λ c κs. search needs)
+    (λ c. search needs)
+    (λ c. search needs)
+    (λ c. after-same _ _ _ _ _ _ _ _ (c .before .before .at-offset .ensures) (rw (sym (c .before .or-else .ensures)) (c .moved-state .ensures)) (rw (sym (c .before .before .before .before .before .before .before .before .before .before .before .owing .ensures), sym (c .before .before .before .before .before .before .before .before .before .before .new-row .ensures), sym (c .before .before .before .before .before .before .before .before .before .before .before .before .before .before .before .store-ip .ensures)) (c .before .before .before .before .before .before .before .before .before .write-row .ensures)) (c .before .before .before .before .before .push-cells .ensures)))

@@ -1,0 +1,4 @@
+pub mod Called
+pub mod Lendings
+pub mod Settled
+pub mod Sums

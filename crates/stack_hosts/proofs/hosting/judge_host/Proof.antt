@@ -1,0 +1,25 @@
+-- `stack_hosts::hosting::judge_host` meets its contract: at each return the tests that led there choose the case. Assumes nothing.
+use borrow.Author.Needs.{needs}
+use mathlib.Core.Path.{sym}
+use Rattle.choice.proofs.Choices.{choices}
+use Rattle.rules.specs.Hosts.{hostTests, hostRoom}
+use Rattle.rules.proofs.Bounds.{start-bound}
+use Rattle.stack_hosts.proofs.hosting.judge_host.Statement.{statement}
+use Rattle.stack_hosts.proofs.hosting.judge_host.Tie as tie
+
+pub judge-host-spec : {M : Type 1} → statement M
+unfolding hostTests hostRoom
+judge-host-spec =
+    tie.close
+    (tie.spec
+    (λ c κs. search needs)
+    (λ c. search choices)
+    (λ c κs. search needs)
+    (λ c κs. search needs)
+    (λ c. search needs)
+    (λ c. let small = start-bound _ _ (c .before .before .before .is-broken-top .ensures) (c .before .before .if1 .left) in let start = c .top-start .ensures in let size = c .before .host-size .ensures in search needs)
+    (λ c. let small = start-bound _ _ (c .before .before .before .is-broken-top .ensures) (c .before .before .if1 .left) in let start = c .top-start .ensures in let size = c .before .host-size .ensures in search needs)
+    (λ c κs. search needs)
+    (λ c. search choices)
+    (λ c κs. search needs)
+    (λ c. rw (sym (c .before .before .before .top-start .ensures), sym (c .before .before .before .before .host-size .ensures)) (search choices depth 9)))

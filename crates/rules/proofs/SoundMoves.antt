@@ -23,7 +23,7 @@ use Rattle.frames.specs.Rows.{RowThere, tooFewWords, rowAt, putRow, putIp, brok
 use Rattle.frames.proofs.Rows.{row-same, row-other, length-putIp, ip-same, ip-other}
 use Rattle.frames.proofs.Debts.{ip-broken, longer-good}
 use Rattle.rules.specs.World.{World, frameAt, topFrame, movedTo, withRegisters}
-use Rattle.rules.specs.Calls.{grownTo, ipStored, topIpStored}
+use Rattle.rules.specs.Shared.{grownTo, ipStored, topIpStored}
 use Rattle.rules.specs.Sound.{Sound}
 use Rattle.rules.proofs.GoodStates.{GoodState, good-state}
 

@@ -34,7 +34,8 @@ use Rattle.rules.specs.declared.Asked.{Asked}
 use Rattle.rules.specs.declared.Asked.the-variants.{Traced, SyncRegs, HostPart}
 use Rattle.rules.specs.World.{World, worldOf, topFrame, topStart, movedTo}
 use Rattle.rules.specs.Answers.{After}
-use Rattle.rules.specs.Calls.{grownTo, headOfNone, topIpStored, pushTests, pushRoom, pushed, replaceTests, replaceRoom, replaced}
+use Rattle.rules.specs.Calls.{headOfNone, pushTests, pushRoom, pushed, replaceTests, replaceRoom, replaced}
+use Rattle.rules.specs.Shared.{grownTo, topIpStored}
 use Rattle.rules.specs.Returns.{popTests, popRoom, popped}
 use Rattle.rules.specs.Hosts.{hostTests, hostRoom, hosted, isSized, returnHostTests, returnHostRoom, returnedHost, partTests, partLent}
 use Rattle.rules.specs.Syncs.{topRoom, syncTests, synced, restoreTests, restored, resetTests, emptied, setTests, setRoom, cellSet, registerTests, registersStored}

@@ -5,7 +5,7 @@
 --     shownAnswer a             what an answer shows: 0 where it is done, 1 where the last frame is gone too, 2 and above with zeros
 --     After                     what a request shows, and the world after it
 --     shownOutcome o ws cs      the same of an outcome, where both buffers hold ws and cs at exit: what a public function promises
---     refusedWith n w           a refusal: zeros are handed back, and the world is as it was
+--     refusedWith w n           a refusal: zeros are handed back, and the world is as it was
 -- and before anything is done:
 --     roomOf start end len count         the cells that a request works in, and `len` and the frame count after it
 --     shownJudgement j                   the number of a judgement, 0 with the room where the request is accepted

@@ -4,7 +4,7 @@
 --     partTests, partRoom, partLent, partCells, partPlace
 use mathlib.Core.Bool.{Bool, true, not, _&&_}
 use mathlib.Core.List.{List, [], _∷_}
-use Prim.Native.Nat.{ℕ, _+_, _-_}
+use Prim.Native.Nat.{ℕ, _+_}
 use lib.Dec.{ltb, eqb}
 use Rattle.choice.specs.Choose.{choose}
 use Rattle.choice.specs.Tests.{Test, _gives_}
@@ -14,10 +14,10 @@ use Rattle.cells.specs.Host.{hostSize, badHostFrame, hostPart, hostPlace}
 use Rattle.rules.specs.declared.HostArgs.{HostArgs}
 use Rattle.rules.specs.declared.ReturnHostArgs.{ReturnHostArgs}
 use Rattle.rules.specs.declared.Room.{Room}
-use Rattle.rules.specs.World.{World, topFrame, nextFrame, noFrame, topStart, movedTo}
+use Rattle.rules.specs.World.{World, fromTop, topFrame, nextFrame, noFrame, topStart, movedTo}
 use Rattle.rules.specs.Answers.{noHost, hostOf, noValues, hostValues, shownOf, After, afterOf, roomOf}
 use Rattle.rules.specs.Broken.{brokenState, brokenTop, brokenNext}
-use Rattle.rules.specs.Calls.{growthTests, grownTo, strayIp, topIpStored}
+use Rattle.rules.specs.Shared.{growthTests, grownTo, strayIp, topIpStored}
 use Rattle.rules.specs.Returns.{returnedTo, lessTop}
 
 -- ---- host
@@ -60,7 +60,7 @@ unfoldable pub returnHostRoom : World → ReturnHostArgs → Room
 returnHostRoom w q =
     let s = topStart w in
     let end = s + hostSize (q .params) (q .results) in
-    roomOf s end (grownTo (w .state) (isSized (q .params) (q .results)) end) (w .state .count - 1)
+    roomOf s end (grownTo (w .state) (isSized (q .params) (q .results)) end) (fromTop (w .state .count) 1)
 
 unfoldable pub returnedHost : World → ReturnHostArgs → Room → After
 returnedHost w q room =

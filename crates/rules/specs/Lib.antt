@@ -9,6 +9,7 @@ pub mod Reached
 pub mod ReachedWorlds
 pub mod Returns
 pub mod Rules
+pub mod Shared
 pub mod Sound
 pub mod Syncs
 pub mod World

@@ -4,7 +4,7 @@
 --     returnedTo n top next instance host     what a return from the newest of n frames shows: the next frame, or that the last is gone
 --     popTests, popRoom, popped
 use mathlib.Core.List.{List, [], _∷_}
-use Prim.Native.Nat.{ℕ, _-_}
+use Prim.Native.Nat.{ℕ}
 use lib.Dec.{eqb}
 use Rattle.choice.specs.Choose.{choose}
 use Rattle.choice.specs.Tests.{Test, _gives_}
@@ -18,7 +18,7 @@ use Rattle.cells.specs.declared.host.HostFrame.{HostFrame}
 use Rattle.rules.specs.declared.State.{State}
 use Rattle.rules.specs.declared.Room.{Room}
 use Rattle.rules.specs.declared.Values.{Values}
-use Rattle.rules.specs.World.{World, topFrame, nextFrame, noFrame, topStart, movedTo}
+use Rattle.rules.specs.World.{World, fromTop, topFrame, nextFrame, noFrame, topStart, movedTo}
 use Rattle.rules.specs.Answers.{noHost, hostValues, Shown, shownOf, After, afterOf, roomOf}
 use Rattle.rules.specs.Broken.{brokenNext}
 
@@ -50,7 +50,7 @@ popTests w =
     ∷ []
 
 unfoldable pub popRoom : World → Room
-popRoom w = roomOf (topStart w) (topStart w) (w .state .len) (w .state .count - 1)
+popRoom w = roomOf (topStart w) (topStart w) (w .state .len) (fromTop (w .state .count) 1)
 
 unfoldable pub popped : World → (instance : ℕ) → Room → After
 popped w instance room = afterOf (returnedTo (w .state .count) (topFrame w) (nextFrame w) instance noHost) (lessTop w room (w .cells))

@@ -44,7 +44,7 @@ abbrev pub noFrame : World → Bool
 noFrame w = eqb (w .state .count) 0
 
 unfoldable pub newestStart : (D : ℕ) (words : List ℕ) (n : ℕ) → ℕ
-newestStart D words n = choose (eqb n 0) 0 (rowAt D words (n - 1) .start)
+newestStart D words n = choose (eqb n 0) 0 (rowAt D words (fromTop n 1) .start)
 
 abbrev pub topStart : World → ℕ
 topStart w = newestStart (w .state .depth) (w .words) (w .state .count)

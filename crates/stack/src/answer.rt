@@ -2,7 +2,7 @@
 ghost use mathlib.Core.Path.{_≡_};
 ghost use Rattle.rules.specs.World.{movedState};
 ghost use Rattle.rules.specs.Answers.{noHost, offsetValues, shownOf, shownAnswer, roomOf, shownJudgement, judged, refusedOutcome};
-ghost use Rattle.rules.specs.Calls.{growthTests, grownTo};
+ghost use Rattle.rules.specs.Shared.{growthTests, grownTo};
 use cells::Growth;
 use cells::HostFrame;
 use cells::grow_if_needed;

@@ -29,10 +29,10 @@ pub fn judge_set(s: State, words: &[u64], cells: &[u64], head: u16) -> Judgement
     if is_broken_top(s, words, cells) {
         return Judgement::Refuse(Refusal::Broken);
     }
+    let at = top_start(words, depth, count) + head as usize;
     if count == 0 {
         return Judgement::Refuse(Refusal::NoFrame);
     }
-    let at = top_start(words, depth, count) + head as usize;
     if len <= at {
         return Judgement::Refuse(Refusal::BeyondLen);
     }

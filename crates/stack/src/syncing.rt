@@ -4,7 +4,7 @@ ghost use Rattle.rules.specs.declared.Request.the-variants.{Sync};
 ghost use Rattle.rules.specs.declared.Asked.the-variants.{Traced};
 ghost use Rattle.rules.specs.World.{worldOf};
 ghost use Rattle.rules.specs.Answers.{shownJudgement, judged, shownOutcome};
-ghost use Rattle.rules.specs.Calls.{ipStored};
+ghost use Rattle.rules.specs.Shared.{ipStored};
 ghost use Rattle.rules.specs.Syncs.{topRoom, syncTests, synced};
 ghost use Rattle.rules.specs.Rules.{answered};
 use crate::answer::at_offset;

@@ -11,7 +11,7 @@ use Rattle.rules.specs.declared.Refusal.{Refusal}
 use Rattle.rules.specs.declared.Judgement.{Judgement}
 use Rattle.rules.specs.declared.Judgement.the-variants.{Refuse, Accept}
 use Rattle.rules.specs.Answers.{roomOf, ShownJudgement, noRoom, shownJudgement, judged, refusalNumber}
-use Rattle.rules.specs.Calls.{growthTests, grownTo}
+use Rattle.rules.specs.Shared.{growthTests, grownTo}
 use Rattle.rules.proofs.Judgements.{judged-refused, judged-accepted}
 
 module _ (s : State) (some : Bool) (start end far : ℕ) (j : Judgement)

@@ -96,9 +96,9 @@ pub fn returned_to(count: usize, top: Row, next: Row, instance: u64, host: HostF
 pub fn instance_after(s: State, top: Row) -> Given
     ensures { λ r. ⌜ r ≡ instanceAfter s top ⌝ }
 {
-    let count = s.count;
+    let frames = s.count;
     let current = s.current;
-    if count == 1 {
+    if frames == 1 {
         return current;
     }
     or_else(debt_of(top), current)

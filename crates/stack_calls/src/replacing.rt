@@ -10,7 +10,8 @@ ghost use Rattle.rules.specs.declared.Request.the-variants.{Replace};
 ghost use Rattle.rules.specs.declared.Asked.the-variants.{Traced};
 ghost use Rattle.rules.specs.World.{worldOf};
 ghost use Rattle.rules.specs.Answers.{roomOf, shownJudgement, judged, shownOutcome};
-ghost use Rattle.rules.specs.Calls.{growthTests, grownTo, replaceTests, replaceRoom, replaced};
+ghost use Rattle.rules.specs.Calls.{replaceTests, replaceRoom, replaced};
+ghost use Rattle.rules.specs.Shared.{growthTests, grownTo};
 ghost use Rattle.rules.specs.Rules.{answered};
 use crate::pushing::are_bad_counts;
 use frames::carried;
@@ -66,14 +67,16 @@ fn judge_params(s: State, some: bool, start: usize, end: usize, far: usize) -> J
     let count = s.count;
     match judge_growth(s, some, start, end, count) {
         Judgement::Refuse(why) => Judgement::Refuse(why),
-        Judgement::Accept(room) => judge_far(some, room, far),
+        Judgement::Accept(room) => {
+            let len = room.len;
+            judge_far(some, len, room, far)
+        }
     }
 }
 
-fn judge_far(some: bool, room: Room, far: usize) -> Judgement
-    ensures { λ r. ⌜ shownJudgement r ≡ judged ((some && ltb (room .len) far) gives 7 ∷ []) room ⌝ }
+fn judge_far(some: bool, len: usize, room: Room, far: usize) -> Judgement
+    ensures { λ r. ⌜ shownJudgement r ≡ judged ((some && ltb len far) gives 7 ∷ []) room ⌝ }
 {
-    let len = room.len;
     if some & (len < far) {
         return Judgement::Refuse(Refusal::BeyondLen);
     }

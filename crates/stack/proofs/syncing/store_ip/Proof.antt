@@ -1,6 +1,6 @@
 -- `stack::syncing::store_ip` meets its contract: the two cases of the definition. Assumes nothing.
 use borrow.Author.Needs.{needs}
-use Rattle.rules.specs.Calls.{ipStored}
+use Rattle.rules.specs.Shared.{ipStored}
 use mathlib.Core.Path.{sym}
 use Rattle.stack.proofs.syncing.store_ip.Statement.{statement}
 use Rattle.stack.proofs.syncing.store_ip.Tie as tie

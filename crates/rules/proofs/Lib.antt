@@ -4,6 +4,7 @@ pub mod GoodStates
 pub mod Judgements
 pub mod Kept
 pub mod OneAnswer
+pub mod Promised
 pub mod Reached
 pub mod SoundMoves
 pub mod Soundness

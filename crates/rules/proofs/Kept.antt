@@ -1,7 +1,6 @@
 -- What requests keep, refused or not: the registers but for reset and register sync, `len` from falling but for reset, and the words and cells
 -- of the requests that write none. Assumes nothing.
---     KeepsRegisters, AllKeepRegisters                  an event that is neither a reset nor a register sync; and a list of such
---     registers-kept                                    a run of them keeps the registers
+--     registers-kept                                    a run without a reset or a register sync keeps the registers
 --     registers-back                                    so a restore hands back what the last register sync stored
 --     registers-opened, registers-reset                 zeros, after an opening and after a reset
 --     len-falls-by-reset                                by nothing else
@@ -10,7 +9,6 @@
 --     restore-changes-nothing, part-changes-nothing     the whole world is as it was
 use mathlib.Core.Path.{_≡_, refl, sym, ap, subst, _∙_}
 use mathlib.Core.Bool.{true}
-use mathlib.Core.Logic.{_≢_}
 use mathlib.Core.List.{List, [], _∷_}
 use Prim.Native.Nat.{ℕ, _+_, _≤_}
 use native.Mathlib.Omega.{arith}
@@ -30,7 +28,7 @@ use Rattle.rules.specs.Returns.{popRoom, popped}
 use Rattle.rules.specs.Hosts.{hostRoom, hosted, isSized, returnHostRoom, returnedHost, partLent}
 use Rattle.rules.specs.Syncs.{topRoom, synced, restored, emptied, setRoom, cellSet, registersStored}
 use Rattle.rules.specs.Rules.{effectOf, answered}
-use Rattle.rules.specs.Events.{Event, asks, hostWrote, steppedBy, ranThrough}
+use Rattle.rules.specs.Events.{Event, asks, hostWrote, steppedBy, ranThrough, KeepsRegisters, AllKeepRegisters}
 use Rattle.rules.specs.Open.{stackOpened}
 use Rattle.rules.proofs.Verdicts.{AskedVerdict, accepted, refused, asked-verdict, accepted-then, done-then, OpeningVerdict, opening-done, opening-refused, opening-verdict}
 use Rattle.rules.proofs.SoundMoves.{grown-longer}
@@ -48,13 +46,6 @@ done-zero : (w : World) (a : Asked) → answered w a .shown .number ≡ 0 → an
 done-zero w a e = done-then w a (accepted-then w a .0 (omega arith))
 
 -- ---- registers
-abbrev pub KeepsRegisters : Event → Type 0
-KeepsRegisters e = (e ≢ asks (Traced Reset)) × ((regs : Registers) → e ≢ asks (SyncRegs regs))
-
-abbrev pub AllKeepRegisters : List Event → Type 0
-AllKeepRegisters [] = Unit {0}
-AllKeepRegisters (e ∷ es) = KeepsRegisters e × AllKeepRegisters es
-
 effect-registers : (w : World) (a : Asked) → KeepsRegisters (asks a) → effectOf w a .world .state .regs ≡ w .state .regs
 unfolding pushed popped replaced hosted returnedHost synced restored cellSet partLent
 effect-registers w (Traced (Push q)) k = refl

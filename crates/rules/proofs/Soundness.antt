@@ -18,8 +18,6 @@ use borrow.Author.Tests.{ltb-false, lt-ltb, eqb-true, eqb-false, eq-eqb}
 use Rattle.choice.specs.Tests.{Test, _gives_, Passed, FirstIs, here, there}
 use Rattle.choice.proofs.Bools.{unless}
 use Rattle.given.specs.declared.Given.{Given}
-use Rattle.given.specs.declared.Given.the-variants.{Absent, Value}
-use Rattle.regs.specs.Registers.{zeroRegisters}
 use Rattle.frames.specs.Debts.{newRow, debtOf, owingOf, carriedOf}
 use Rattle.frames.proofs.Rows.{length-putRow}
 use Rattle.frames.proofs.Debts.{new-good}
@@ -149,12 +147,11 @@ module _ (w : World) (h : Sound w) where
   effect-sound (Traced (ReturnHost q)) p = return-host-sound q p
   effect-sound (Traced (Sync ip)) p =
       let g = sound-state w h in
-      moved-sound w h _ (w .state .count) _ (w .state .len) (w .cells) (length-ipStored (w .state .depth) (w .words) (w .state .count) (Value ip)) refl
-      (g .count-within) (g .len-lent) (g .len-within) (rows-stored w h (Value ip) (w .state .len) (omega arith))
+      moved-sound w h _ (w .state .count) _ (w .state .len) (w .cells) (length-ipStored (w .state .depth) (w .words) (w .state .count) _) refl
+      (g .count-within) (g .len-lent) (g .len-within) (rows-stored w h _ (w .state .len) (omega arith))
   effect-sound (Traced Restore) p = h
   effect-sound (Traced Reset) p =
-      registers-sound (movedTo w (w .words) 0 Absent 0 (w .cells))
-      (moved-sound w h (w .words) 0 Absent 0 (w .cells) refl refl (omega arith) (omega arith) (omega arith) (λ j b. absurd (omega arith))) zeroRegisters
+      registers-sound _ (moved-sound w h (w .words) 0 _ 0 (w .cells) refl refl (omega arith) (omega arith) (omega arith) (λ j b. absurd (omega arith))) _
   effect-sound (Traced (Set head cell)) p =
       let g = sound-state w h in
       moved-sound w h (w .words) (w .state .count) _ (w .state .len) _ refl (length-setCell (w .cells) (topStart w + head) cell)

@@ -1,7 +1,7 @@
 -- Every number of every request's ordered list is reached, each cause of it by the smallest example; where two causes hold, the order decides;
 -- and every request is accepted somewhere. Opening and number 9 come first, then the requests, the refusals of each in document 01's order.
 use mathlib.Core.List.{List, [], _∷_, _++_}
-use lib.ListN.{replicate}
+use lib.ListN.{replicate, getD}
 use Rattle.given.specs.declared.Given.the-variants.{Absent, Value}
 use Rattle.rules.specs.declared.Request.the-variants.{Pop, Sync, Restore, Reset, Set}
 use Rattle.rules.specs.declared.Asked.the-variants.{Traced, SyncRegs}
@@ -220,6 +220,10 @@ syncLines =
     ∷ (let t = answered (answered readyWorld (SyncRegs eightRegisters) .world) (Traced Restore) in
     numberSeen t ∷ t .shown .values .offset ∷ t .shown .values .ip ∷ t .shown .values .instance ∷ t .shown .values .regs .ireg ∷ [])
     ⊳ (0 ∷ 1 ∷ 20 ∷ 6 ∷ 8 ∷ [])
+    -- what sync, host and set stored
+    ∷ seesCaller (answered readyWorld (Traced (Sync 9)) .world) (Traced Restore) (0 ∷ 9 ∷ 6 ∷ 1 ∷ 6 ∷ [])
+    ∷ seesCaller (answered readyWorld (hostBy (Value 9) 0 0 0) .world) (Traced Restore) (0 ∷ 9 ∷ 6 ∷ 1 ∷ 6 ∷ [])
+    ∷ (getD (answered readyWorld (Traced (Set 1 9)) .world .cells) 2 0 ∷ []) ⊳ (9 ∷ [])
     -- 4 before 8: no frame, and no current instance. 4 before 7: no frame, and beyond `len`
     ∷ reaches (freshWorld 0 0 0) (Traced Restore) 4
     ∷ reaches (freshWorld 0 0 0) (Traced (Set 0 0)) 4

@@ -8,9 +8,9 @@ use frames::too_few_words;
 use rules::State;
 
 // The largest depth limit, in frames.
-const MAX_DEPTH: usize = 65_536;
+pub(crate) const MAX_DEPTH: usize = 65_536;
 // The largest height limit, and the most cells that may be lent.
-const MAX_CELLS: usize = 1_048_576;
+pub(crate) const MAX_CELLS: usize = 1_048_576;
 
 // The place of the `k`-th newest of `count` frames, 0 where there are not so many.
 pub fn from_top(count: usize, k: usize) -> usize

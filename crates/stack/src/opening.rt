@@ -3,6 +3,8 @@ ghost use mathlib.Core.Path.{_≡_};
 ghost use lib.ListN.{length};
 ghost use Rattle.rules.specs.Open.{freshState, openRefused, shownOpening, stackOpened};
 use crate::answer::at_offset;
+use crate::look::MAX_CELLS;
+use crate::look::MAX_DEPTH;
 use frames::too_few_words;
 use given::Given;
 use regs::Registers;
@@ -15,10 +17,6 @@ use rules::State;
 const MAX_BYTES: usize = 8_388_608;
 // The bytes of a cell.
 const CELL_BYTES: usize = 8;
-// The largest depth limit, and the most cells that may be lent.
-const MAX_DEPTH: usize = 65_536;
-
-const MAX_CELLS: usize = 1_048_576;
 
 // Opens a stack: the height limit is in bytes, the depth limit in frames. 14 beyond the limits or with too few frame words, and a state of zeros.
 pub fn open(bytes: usize, depth: usize, words: &[u64], cells: &[u64]) -> Outcome

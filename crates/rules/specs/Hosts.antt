@@ -37,7 +37,9 @@ hostTests w q =
 
 unfoldable pub hosted : World → HostArgs → Room → After
 hosted w q room =
+    -- offset: top start; the host's frame is from its start to its end
     afterOf (shownOf 0 (hostValues (topStart w) (hostOf (room .start) (room .end) (q .params) (q .results))))
+    -- the ip is stored if given; the cells grow, also when the size is 0
     (movedTo w (topIpStored w (q .caller)) (room .count) (w .state .current) (room .len) (hostCells (w .cells) (w .state .len) (room .len)))
 
 -- ---- return-host
@@ -66,7 +68,9 @@ unfoldable pub returnedHost : World → ReturnHostArgs → Room → After
 returnedHost w q room =
     let s = room .start in
     let some = isSized (q .params) (q .results) in
+    -- pop as above; where both counts are 0 the host frame is all zeros and nothing else happens
     afterOf (returnedTo (w .state .count) (topFrame w) (nextFrame w) (q .instance) (choose some (hostOf s (room .end) (q .params) (q .results)) noHost))
+    -- else copy params cells to s, then grow
     (lessTop w room (choose some (returnHostCells (w .cells) (w .state .len) (room .len) s (q .head) (q .params)) (w .cells)))
 
 -- ---- the host part

@@ -16,9 +16,15 @@ judge-push-spec =
     (λ c. search choices)
     (λ c κs. search needs)
     (λ c. search needs)
-    (λ c. let small = start-bound _ _ (c .before .before .is-broken-top .ensures) (c .before .if1 .left) in let start = c .top-start .ensures in search needs)
+    (λ c.
+    let small = start-bound _ _ (c .before .before .is-broken-top .ensures) (c .before .if1 .left) in
+    let start = c .top-start .ensures in
+    search needs)
     (λ c. search needs)
-    (λ c. let small = start-bound _ _ (c .before .before .is-broken-top .ensures) (c .before .if1 .left) in let start = c .top-start .ensures in search needs)
+    (λ c.
+    let small = start-bound _ _ (c .before .before .is-broken-top .ensures) (c .before .if1 .left) in
+    let start = c .top-start .ensures in
+    search needs)
     (λ c. let few = count-bound _ _ (c .before .before .is-broken-top .ensures) (c .before .if1 .left) in search needs)
     (λ c. search choices)
     (λ c κs. search needs)

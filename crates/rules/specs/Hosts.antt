@@ -17,7 +17,7 @@ use Rattle.rules.specs.declared.Room.{Room}
 use Rattle.rules.specs.World.{World, fromTop, topFrame, nextFrame, noFrame, topStart, movedTo}
 use Rattle.rules.specs.Answers.{noHost, hostOf, noValues, hostValues, shownOf, After, afterOf, roomOf}
 use Rattle.rules.specs.Broken.{brokenState, brokenTop, brokenNext}
-use Rattle.rules.specs.Shared.{growthTests, grownTo, strayIp, topIpStored}
+use Rattle.rules.specs.Shared.{growthTests, grownTo, strayIp, beyondLen, topIpStored}
 use Rattle.rules.specs.Returns.{returnedTo, lessTop}
 
 -- ---- host
@@ -55,7 +55,7 @@ returnHostTests w q =
     brokenNext w gives 9
     ∷ noFrame w gives 4
     -- beyond the `len` before growth
-    ∷ (some && ltb (w .state .len) (s + q .head + q .params)) gives 7
+    ∷ beyondLen some (w .state .len) (s + q .head + q .params) gives 7
     ∷ growthTests (w .state) some (s + hostSize (q .params) (q .results))
 
 unfoldable pub returnHostRoom : World → ReturnHostArgs → Room

@@ -2,11 +2,12 @@
 --     growthTests s wanted n       2 and 3, where growth to n is wanted
 --     grownTo s wanted n           `len` after it
 --     strayIp, badCounts           causes of 4 and of 5
+--     beyondLen some len end       the cause of 7 for parameters, by the `len` that it is asked of
 --     topIpStored w given          the words with an ip, where one is given, in the newest frame
 use mathlib.Core.Bool.{Bool, not, _&&_}
 use mathlib.Core.List.{List, [], _∷_}
 use Prim.Native.Nat.{ℕ, max}
-use lib.Dec.{leb, eqb}
+use lib.Dec.{leb, ltb, eqb}
 use Rattle.choice.specs.Choose.{choose}
 use Rattle.choice.specs.Tests.{Test, _gives_}
 use Rattle.given.specs.declared.Given.{Given}
@@ -39,6 +40,10 @@ strayIp count caller = isGiven caller && eqb count 0
 -- without params ≤ locals ≤ slots
 abbrev pub badCounts : (params locals slots : ℕ) → Bool
 badCounts params locals slots = not (leb params locals && leb locals slots)
+
+-- parameters, where there are some, that end beyond `len`
+abbrev pub beyondLen : (some : Bool) (len end : ℕ) → Bool
+beyondLen some len end = some && ltb len end
 
 -- ---- the caller's ip
 

@@ -4,6 +4,7 @@ use denote.Ref.{now}
 use Rattle.choice.specs.Once.{Once, OnceSeen, beside}
 use Rattle.rules.proofs.OneAnswer.{answers-once, judgements-once, shown-outcome, shown-words, shown-cells, shown-opening}
 use Rattle.stack.proofs.answer.no_host.Reads as no-host
+use Rattle.stack.proofs.answer.at_host.Reads as at-host
 use Rattle.stack.proofs.answer.at_offset.Reads as at-offset
 use Rattle.stack.proofs.answer.refused.Reads as refused
 use Rattle.stack.proofs.answer.moved_state.Reads as moved-state
@@ -28,6 +29,9 @@ use Rattle.stack.proofs.syncing.store_ip.Reads as store-ip
 
 pub no-host-settled : Once no-host.Post
 no-host-settled κ a r r′ e e′ p q = p ∙ sym q
+
+pub at-host-settled : Once at-host.Post
+at-host-settled κ a r r′ e e′ p q = answers-once r r′ (p ∙ sym q)
 
 pub at-offset-settled : Once at-offset.Post
 at-offset-settled κ a r r′ e e′ p q = answers-once r r′ (p ∙ sym q)

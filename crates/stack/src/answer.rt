@@ -1,7 +1,7 @@
 // What requests hand back, and the growth that they are judged by.
 ghost use mathlib.Core.Path.{_≡_};
 ghost use Rattle.rules.specs.World.{movedState};
-ghost use Rattle.rules.specs.Answers.{noHost, offsetValues, shownOf, shownAnswer, roomOf, shownJudgement, judged, refusedOutcome};
+ghost use Rattle.rules.specs.Answers.{noHost, hostValues, offsetValues, shownOf, shownAnswer, roomOf, shownJudgement, judged, refusedOutcome};
 ghost use Rattle.rules.specs.Shared.{growthTests, grownTo};
 use cells::Growth;
 use cells::HostFrame;
@@ -32,11 +32,18 @@ pub fn no_host() -> HostFrame
 pub fn at_offset(offset: usize) -> Answer
     ensures { λ r. ⌜ shownAnswer r ≡ shownOf 0 (offsetValues offset) ⌝ }
 {
+    at_host(offset, no_host())
+}
+
+// The answer of a request that names no more than an offset and a host frame.
+pub fn at_host(offset: usize, host: HostFrame) -> Answer
+    ensures { λ r. ⌜ shownAnswer r ≡ shownOf 0 (hostValues offset host) ⌝ }
+{
     Answer::Done(Values {
         offset,
         ip: 0,
         instance: 0,
-        host: no_host(),
+        host,
         regs: Registers::zeroed(),
     })
 }

@@ -9,6 +9,7 @@ mod restoring;
 mod setting;
 mod syncing;
 
+pub use answer::at_host;
 pub use answer::at_offset;
 pub use answer::judge_growth;
 pub use answer::moved_state;

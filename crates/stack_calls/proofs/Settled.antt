@@ -11,6 +11,7 @@ use Rattle.stack_calls.proofs.pushing.judge_push.Reads as judge-push
 use Rattle.stack_calls.proofs.pushing.is_stray_ip.Reads as is-stray-ip
 use Rattle.stack_calls.proofs.pushing.are_bad_counts.Reads as are-bad-counts
 use Rattle.stack_calls.proofs.pushing.push_frame.Reads as push-frame
+use Rattle.stack_calls.proofs.replacing.is_beyond.Reads as is-beyond
 use Rattle.stack_calls.proofs.replacing.judge_replace.Reads as judge-replace
 use Rattle.stack_calls.proofs.replacing.replace_frame.Reads as replace-frame
 
@@ -40,6 +41,9 @@ push-frame-settled κ a r r′ e e′ p q = λ t. (
   shown-outcome r r′ _ _ _ _ (p ∙ sym q) t,
   (shown-words r r′ _ _ _ _ (p ∙ sym q) t, shown-cells r r′ _ _ _ _ (p ∙ sym q) t),
 )
+
+pub is-beyond-settled : Once is-beyond.Post
+is-beyond-settled κ a r r′ e e′ p q = p ∙ sym q
 
 pub judge-replace-settled : Once judge-replace.Post
 judge-replace-settled κ a r r′ e e′ p q = judgements-once r r′ (p ∙ sym q)

@@ -12,5 +12,6 @@ pub use pushing::are_bad_counts;
 pub use pushing::is_stray_ip;
 pub use pushing::judge_push;
 pub use pushing::push_frame;
+pub use replacing::is_beyond;
 pub use replacing::judge_replace;
 pub use replacing::replace_frame;

@@ -1,8 +1,7 @@
 // Replace: a tail call. The newest frame stays where it is and becomes the callee's; its parameters are copied down, and its locals are cleared.
 ghost use mathlib.Core.Path.{_≡_};
-ghost use mathlib.Core.Bool.{_&&_};
 ghost use mathlib.Core.List.{[], _∷_, _++_};
-ghost use lib.Dec.{ltb, eqb};
+ghost use lib.Dec.{eqb};
 ghost use Rattle.choice.specs.Choose.{choose};
 ghost use Rattle.choice.specs.Tests.{_gives_};
 ghost use Rattle.cells.specs.Cells.{replaceCells};
@@ -11,7 +10,7 @@ ghost use Rattle.rules.specs.declared.Asked.the-variants.{Traced};
 ghost use Rattle.rules.specs.World.{worldOf};
 ghost use Rattle.rules.specs.Answers.{roomOf, shownJudgement, judged, shownOutcome};
 ghost use Rattle.rules.specs.Calls.{replaceTests, replaceRoom, replaced};
-ghost use Rattle.rules.specs.Shared.{growthTests, grownTo};
+ghost use Rattle.rules.specs.Shared.{growthTests, grownTo, beyondLen};
 ghost use Rattle.rules.specs.Rules.{answered};
 use crate::pushing::are_bad_counts;
 use frames::carried;
@@ -62,7 +61,7 @@ pub fn judge_replace(s: State, words: &[u64], cells: &[u64], q: ReplaceArgs) -> 
 // Growth, and then 7: the parameters, which end at `far`, are looked for within the new `len`.
 fn judge_params(s: State, some: bool, start: usize, end: usize, far: usize) -> Judgement
     ensures { λ r. ⌜ shownJudgement r
-        ≡ judged (growthTests s some end ++ ((some && ltb (grownTo s some end) far) gives 7 ∷ [])) (roomOf start end (grownTo s some end) (s .count)) ⌝ }
+        ≡ judged (growthTests s some end ++ (beyondLen some (grownTo s some end) far gives 7 ∷ [])) (roomOf start end (grownTo s some end) (s .count)) ⌝ }
 {
     let count = s.count;
     match judge_growth(s, some, start, end, count) {
@@ -75,12 +74,19 @@ fn judge_params(s: State, some: bool, start: usize, end: usize, far: usize) -> J
 }
 
 fn judge_far(some: bool, len: usize, room: Room, far: usize) -> Judgement
-    ensures { λ r. ⌜ shownJudgement r ≡ judged ((some && ltb len far) gives 7 ∷ []) room ⌝ }
+    ensures { λ r. ⌜ shownJudgement r ≡ judged (beyondLen some len far gives 7 ∷ []) room ⌝ }
 {
-    if some & (len < far) {
+    if is_beyond(some, len, far) {
         return Judgement::Refuse(Refusal::BeyondLen);
     }
     Judgement::Accept(room)
+}
+
+// Whether there are parameters that end beyond `len`. Note: replace asks it of the new `len`, return-host of the one before growth.
+pub fn is_beyond(some: bool, len: usize, end: usize) -> bool
+    ensures { λ r. ⌜ r ≡ beyondLen some len end ⌝ }
+{
+    some & (len < end)
 }
 
 // Calls in place of the newest frame: the offset is its start.

@@ -3,20 +3,18 @@ ghost use mathlib.Core.Path.{_≡_};
 ghost use Rattle.rules.specs.declared.Request.the-variants.{Host};
 ghost use Rattle.rules.specs.declared.Asked.the-variants.{Traced};
 ghost use Rattle.rules.specs.World.{worldOf};
-ghost use Rattle.rules.specs.Answers.{shownAnswer, hostValues, shownOf, shownJudgement, judged, shownOutcome};
+ghost use Rattle.rules.specs.Answers.{shownJudgement, judged, shownOutcome};
 ghost use Rattle.rules.specs.Hosts.{hostTests, hostRoom, hosted};
 ghost use Rattle.rules.specs.Rules.{answered};
 use cells::HostFrame;
 use cells::host_size;
-use regs::Registers;
-use rules::Answer;
 use rules::HostArgs;
 use rules::Judgement;
 use rules::Outcome;
 use rules::Refusal;
 use rules::Room;
 use rules::State;
-use rules::Values;
+use stack::at_host;
 use stack::is_broken_top;
 use stack::judge_growth;
 use stack::moved_state;
@@ -82,17 +80,4 @@ fn hosted_in(s: State, words: &mut [u64], cells: &mut [u64], q: HostArgs, room: 
         ),
         state: moved_state(s, room.count, current, next),
     }
-}
-
-// The answer of a request that names no more than an offset and a host frame.
-fn at_host(offset: usize, host: HostFrame) -> Answer
-    ensures { λ r. ⌜ shownAnswer r ≡ shownOf 0 (hostValues offset host) ⌝ }
-{
-    Answer::Done(Values {
-        offset,
-        ip: 0,
-        instance: 0,
-        host,
-        regs: Registers::zeroed(),
-    })
 }

@@ -1,7 +1,5 @@
 // Return-host: a host's function is called last. The newest frame goes as with a pop, and the host's parameters are copied down to its start.
 ghost use mathlib.Core.Path.{_≡_};
-ghost use mathlib.Core.Bool.{_&&_};
-ghost use lib.Dec.{ltb};
 ghost use Rattle.choice.specs.Choose.{choose};
 ghost use Rattle.cells.specs.Cells.{returnHostCells};
 ghost use Rattle.rules.specs.declared.Request.the-variants.{ReturnHost};
@@ -27,6 +25,7 @@ use stack::no_host;
 use stack::refused;
 use stack::top_start;
 use stack_calls::instance_after;
+use stack_calls::is_beyond;
 use stack_calls::returned_to;
 
 // Whether a return-host is refused: 9, 4, 7, 2, 3. Note: 7 looks at `len` before growth, where replace looks at it after.
@@ -62,13 +61,6 @@ fn is_sized(params: u16, results: u16) -> bool
     ensures { λ r. ⌜ r ≡ isSized params results ⌝ }
 {
     !((params == 0) & (results == 0))
-}
-
-// Whether there are parameters that end beyond `len`.
-fn is_beyond(some: bool, len: usize, far: usize) -> bool
-    ensures { λ r. ⌜ r ≡ (some && ltb len far) ⌝ }
-{
-    some & (len < far)
 }
 
 // Returns through a host's frame at the start of the frame that goes: the offset is the caller's start, or 0 with answer 1.

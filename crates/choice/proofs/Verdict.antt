@@ -7,6 +7,7 @@ use mathlib.Core.Logic.{_↔_}
 use Prim.Native.Nat.{ℕ, _≤_, _<_}
 use native.Mathlib.Omega.{arith}
 use lib.Dec.{T, leb, leb→le}
+use lib.Ieee.Fits.{and-l, and-r}
 use Rattle.choice.specs.Choose.{choose}
 use Rattle.choice.specs.Tests.{Test, _gives_, settle, firstOf, Passed, FirstIs, here, there, refusals}
 
@@ -42,17 +43,9 @@ verdict ((true gives n) ∷ ts) = fails n (here refl)
 verdict ((false gives n) ∷ ts) = later (verdict ts)
 
 -- ---- a list whose numbers are refusals'
-and-left : (a b : Bool) → T (a && b) → T a
-and-left true b t = tt
-and-left false b t = t
-
-and-right : (a b : Bool) → T (a && b) → T b
-and-right true b t = t
-and-right false b t = absurd t
-
 pub at-least-two : {ts : List Test} {n : ℕ} → FirstIs ts n → T (refusals ts) → 2 ≤ n
-at-least-two (here {n = n} {ts = ts} e) t = leb→le 2 n (and-left (leb 2 n) (refusals ts) t)
-at-least-two (there {m = m} {ts = ts} e p) t = at-least-two p (and-right (leb 2 m) (refusals ts) t)
+at-least-two (here {n = n} {ts = ts} e) t = leb→le 2 n (and-l (leb 2 n) (refusals ts) t)
+at-least-two (there {m = m} {ts = ts} e p) t = at-least-two p (and-r (leb 2 m) (refusals ts) t)
 
 -- ---- exactly then: of an answer v that is settled by the list, over any reading of its number that reads a refusal's as its own and that of
 -- `done` as below 2

@@ -13,7 +13,7 @@ use lib.Dec.{ltb, eqb}
 use lib.ListN.{length}
 use borrow.Author.Tests.{ltb-true, ltb-false, lt-ltb, le-ltb, eqb-true, eqb-false, eq-eqb, not-false}
 use Rattle.choice.specs.Choose.{choose}
-use Rattle.choice.proofs.Bools.{neither}
+use Rattle.choice.proofs.Bools.{neither, neither-of, held-passes, passes-held}
 use Rattle.frames.specs.Rows.{tooFewWords, brokenRow}
 use Rattle.frames.proofs.Debts.{judged-good}
 use Rattle.rules.specs.World.{World, topFrame, nextFrame, noFrame, newestStart, topStart}
@@ -74,18 +74,6 @@ module _ (w : World) where
   good-state = (state-told, state-good)
 
 -- ---- the frames read: where there is one, it breaks no rule
-held-passes : (a b : Bool) → (a && b) ≡ false → a ≡ true → b ≡ false
-held-passes true b e h = e
-held-passes false b e h = absurd (false≢true h)
-
-passes-held : (a b : Bool) → (a ≡ true → b ≡ false) → (a && b) ≡ false
-passes-held true b f = f refl
-passes-held false b f = refl
-
-neither-of : (a b : Bool) → a ≡ false → b ≡ false → (a || b) ≡ false
-neither-of true b p q = p
-neither-of false b p q = q
-
 module _ (w : World) where
   pub top-passed : brokenTop w ≡ false → (brokenState w ≡ false) × (0 < w .state .count → brokenRow (topFrame w) (w .state .len) ≡ false)
   unfolding brokenTop

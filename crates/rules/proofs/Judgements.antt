@@ -1,5 +1,6 @@
 -- From what a judgement shows to what is answered: where it refuses, so does the answer, with its number; where it accepts, no test is true, the room
 -- is the request's, and the answer is its step. Assumes nothing.
+--     refused-settle, accepted-settle      by any list of refusals, whatever is done where none is given
 --     refused-answer       what a public function answers where the judgement refuses
 --     accepted-answer      and where it accepts: the step, in the room that was judged
 use mathlib.Core.Path.{_≡_, refl, sym, ap, _∙_}
@@ -77,17 +78,26 @@ module _ {A : Type 0} (f : ℕ → A) (a : A) (ts : List Test) (numbers : T (ref
           let two = at-least-two p numbers in
           absurd (omega arith)
 
+-- ---- of what is settled by a list, over a world
+module _ (w : World) (done : After) (ts : List Test) (numbers : T (refusals ts)) (room : Room) (j : Judgement) (e : shownJudgement j ≡ judged ts room) where
+  pub refused-settle : (why : Refusal) (o : Outcome) → j ≡ Refuse why → o ≡ refusedOutcome (w .state) why
+      → shownOutcome o (w .words) (w .cells) ≡ settle ts (refusedWith w) done
+  refused-settle why o q p =
+      ap (λ o. shownOutcome o (w .words) (w .cells)) p
+      ∙ sym (judged-refused (refusedWith w) done ts numbers room why (sym (ap shownJudgement q) ∙ e))
+
+  pub accepted-settle : (r : Room) → j ≡ Accept r → (settle ts (refusedWith w) done ≡ done) × (r ≡ room)
+  accepted-settle r q = judged-accepted (refusedWith w) done ts numbers room r (sym (ap shownJudgement q) ∙ e)
+
 -- ---- of all that can be asked
 module _ (w : World) (a : Asked) (j : Judgement) (e : shownJudgement j ≡ judged (testsOf w a) (roomFor w a)) where
   pub refused-answer : (why : Refusal) (o : Outcome) → j ≡ Refuse why → o ≡ refusedOutcome (w .state) why
       → shownOutcome o (w .words) (w .cells) ≡ answered w a
   unfolding answered
-  refused-answer why o q p =
-      ap (λ o. shownOutcome o (w .words) (w .cells)) p
-      ∙ sym (judged-refused (refusedWith w) (effectOf w a) (testsOf w a) (numbered w a) (roomFor w a) why (sym (ap shownJudgement q) ∙ e))
+  refused-answer = refused-settle w (effectOf w a) (testsOf w a) (numbered w a) (roomFor w a) j e
 
   pub accepted-answer : (t : After) (r : Room) → j ≡ Accept r → t ≡ effectIn w a r → t ≡ answered w a
   unfolding answered
   accepted-answer t r q h =
-      let p = judged-accepted (refusedWith w) (effectOf w a) (testsOf w a) (numbered w a) (roomFor w a) r (sym (ap shownJudgement q) ∙ e) in
+      let p = accepted-settle w (effectOf w a) (testsOf w a) (numbered w a) (roomFor w a) j e r q in
       h ∙ ap (effectIn w a) (p .1) ∙ sym (p .0)

@@ -22,18 +22,18 @@ use Rattle.rules.specs.Returns.{returnedTo, lessTop}
 
 -- ---- host
 
+unfoldable pub hostTests : World → HostArgs → List Test
+hostTests w q =
+    brokenTop w gives 9
+    ∷ strayIp (w .state .count) (q .caller) gives 4
+    ∷ growthTests (w .state) true (topStart w + q .head + hostSize (q .params) (q .results))
+
 -- host start = top start + head, end = host start + max(params, results)
 unfoldable pub hostRoom : World → HostArgs → Room
 hostRoom w q =
     let start = topStart w + q .head in
     let end = start + hostSize (q .params) (q .results) in
     roomOf start end (grownTo (w .state) true end) (w .state .count)
-
-unfoldable pub hostTests : World → HostArgs → List Test
-hostTests w q =
-    brokenTop w gives 9
-    ∷ strayIp (w .state .count) (q .caller) gives 4
-    ∷ growthTests (w .state) true (topStart w + q .head + hostSize (q .params) (q .results))
 
 unfoldable pub hosted : World → HostArgs → Room → After
 hosted w q room =

@@ -9,8 +9,7 @@ ghost use Rattle.rules.specs.Rules.{answered};
 use crate::answer::at_offset;
 use crate::answer::refused;
 use crate::look::is_broken_state;
-use given::Given;
-use regs::Registers;
+use crate::opening::fresh_state;
 use rules::Judgement;
 use rules::Outcome;
 use rules::Refusal;
@@ -48,15 +47,6 @@ fn emptied_in(s: State, words: &[u64], cells: &[u64]) -> Outcome
 {
     Outcome {
         answer: at_offset(0),
-        state: State {
-            depth: s.depth,
-            height: s.height,
-            words: s.words,
-            cells: s.cells,
-            count: 0,
-            len: 0,
-            current: Given::Absent,
-            regs: Registers::zeroed(),
-        },
+        state: fresh_state(s.depth, s.height, s.words, s.cells),
     }
 }

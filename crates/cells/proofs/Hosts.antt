@@ -7,7 +7,8 @@
 --     results-to-end                                the part for its results lies from its start to its end
 --     length-part, part-cell                        a part of a frame that is not refused: how many cells it has, and which
 --     lent-back                                     (of runs, Lists.antt) the cells when a part comes back to whoever lent it: what they were, with that part replaced
---     results-in, results-kept, length-results      the cells when a host's results are stored
+--     results-in, results-kept, length-results      the cells when a host's results are stored; `results-stored` as one run
+--     results-inside                                a part for results lies inside its frame
 use mathlib.Core.Path.{_≡_, refl, sym, ap, _∙_}
 use mathlib.Core.Bool.{Bool, true, false, not, _&&_, _||_, true≢false, and-false, or-true}
 use mathlib.Core.Logic.{_↔_, _≢_, _⊎_, inl, inr}
@@ -15,7 +16,7 @@ use mathlib.Core.List.{List, [], _++_}
 use Prim.Native.Nat.{ℕ, _+_, _-_, _≤_, _<_, min}
 use native.Mathlib.Omega.{arith}
 use native.Mathlib.Decide.{decLe, ℕ-discrete}
-use lib.ListN.{length, getD, take, drop, length-take, drop-of-length-le}
+use lib.ListN.{length, getD, take, drop, length-take, length-drop, drop-of-length-le}
 use lib.Seq.{sets, length-sets, take-nil, getD-take, getD-drop}
 use lib.Dec.{ltb, eqb}
 use borrow.Author.Tests.{lt-ltb, le-ltb, eq-eqb, ne-eqb, le-leb, lt-leb}
@@ -196,3 +197,29 @@ module _ (cells : List ℕ) (len : ℕ) (f : HostFrame) (values : List ℕ) wher
   results-in e k b v w =
       rw e (sets-in (take (hostSize (f .params) (f .results)) values) cells (f .start) k (f .start + k) refl (rw (length-take (hostSize (f .params) (f .results)) values) (omega arith)) w
       ∙ getD-take (hostSize (f .params) (f .results)) values k 0 b)
+
+  pub results-stored : badHostFrame f len ≡ false → resultsStored cells len f values ≡ sets cells (f .start) (take (hostSize (f .params) (f .results)) values)
+  unfolding resultsStored choose
+  results-stored e = rw e
+
+-- a part for results that has cells begins at its frame's start, and ends no later than the frame
+pub results-inside : (cells : List ℕ) (len : ℕ) (f : HostFrame) → 0 < length (hostResults cells len f)
+    → (hostPlace cells len f ≡ f .start) × (f .start + length (hostResults cells len f) ≤ f .end)
+results-inside cells len f some = by (badHostFrame f len) refl
+  where
+    within : badHostFrame f len ≡ false → length (hostResults cells len f) ≡ min (hostSize (f .params) (f .results)) (length cells - f .start)
+    within e =
+        ap length (accepted-part cells len f (hostSize (f .params) (f .results)) e)
+        ∙ length-take (hostSize (f .params) (f .results)) (drop (f .start) cells)
+        ∙ ap (λ n. min (hostSize (f .params) (f .results)) n) (length-drop (f .start) cells)
+
+    ends : FrameSized f len → 0 < hostSize (f .params) (f .results) → f .start + hostSize (f .params) (f .results) ≤ f .end
+    ends (no-cells p q) more = absurd (omega arith)
+    ends (sized p q r) more = omega arith
+
+    by : (t : Bool) → badHostFrame f len ≡ t → (hostPlace cells len f ≡ f .start) × (f .start + length (hostResults cells len f) ≤ f .end)
+    by true e = let none = ap length (refused-part cells len f (hostSize (f .params) (f .results)) e) in absurd (omega arith)
+    by false e =
+        let size = within e in
+        let room = ends (frame-sized f len .0 e) (omega arith) in
+        (place-start cells len f e (omega arith), omega arith)

@@ -1,11 +1,12 @@
 -- What passing number 9 tells, of the state and of the frames that are read; and that in a sound world 9 is passed whatever is read.
 -- Assumes nothing.
 --     GoodState, good-state         the state and the lent buffers pass 9 exactly when these facts hold
+--     good-words                    the words lent are then enough for the frames
 --     top-passed, next-passed       the frames read pass it: the state does, and so does the newest frame, and the next one, where there is one
 --     top-start-within              the newest frame's start is then within `len`
 --     sound-top, sound-next         a sound world passes 9
 use mathlib.Core.Path.{_≡_, refl}
-use mathlib.Core.Bool.{Bool, true, false, not, _&&_, _||_, false≢true}
+use mathlib.Core.Bool.{Bool, true, false, not}
 use mathlib.Core.Logic.{_↔_}
 use Prim.Native.Nat.{_-_, _≤_, _<_}
 use native.Mathlib.Omega.{arith}
@@ -72,6 +73,9 @@ module _ (w : World) where
 
   pub good-state : brokenState w ≡ false ↔ GoodState w
   good-state = (state-told, state-good)
+
+  pub good-words : GoodState w → tooFewWords (length (w .words)) (w .state .depth) ≡ false
+  good-words g = rw (g .words-lent) (g .words-enough)
 
 -- ---- the frames read: where there is one, it breaks no rule
 module _ (w : World) where

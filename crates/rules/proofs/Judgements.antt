@@ -3,7 +3,7 @@
 --     refused-settle, accepted-settle      by any list of refusals, whatever is done where none is given
 --     refused-answer       what a public function answers where the judgement refuses
 --     accepted-answer      and where it accepts: the step, in the room that was judged
-use mathlib.Core.Path.{_≡_, refl, sym, ap, _∙_}
+use mathlib.Core.Path.{_≡_, sym, ap, _∙_}
 use mathlib.Core.List.{List}
 use Prim.Native.Nat.{ℕ, _≤_}
 use native.Mathlib.Omega.{arith}
@@ -20,7 +20,7 @@ use Rattle.rules.specs.declared.Request.the-variants.{Push, Pop, Replace
 use Rattle.rules.specs.declared.Asked.{Asked}
 use Rattle.rules.specs.declared.Asked.the-variants.{Traced, SyncRegs, HostPart}
 use Rattle.rules.specs.World.{World}
-use Rattle.rules.specs.Answers.{refusalNumber, After, shownOutcome, refusedOutcome, refusedWith, ShownJudgement, judgedOf, noRoom, shownJudgement, judged}
+use Rattle.rules.specs.Answers.{refusalNumber, After, shownOutcome, refusedOutcome, refusedWith, judgedOf, noRoom, shownJudgement, judged}
 use Rattle.rules.specs.Calls.{pushTests, replaceTests}
 use Rattle.rules.specs.Returns.{popTests}
 use Rattle.rules.specs.Hosts.{hostTests, returnHostTests, partTests}

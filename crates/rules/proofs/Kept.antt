@@ -1,5 +1,6 @@
 -- What requests keep, refused or not: the registers but for reset and register sync, `len` from falling but for reset, and the words and cells
 -- of the requests that write none. Assumes nothing.
+--     kept-by-effect                                    what the step keeps is kept
 --     registers-kept                                    a run without a reset or a register sync keeps the registers
 --     registers-back                                    so a restore hands back what the last register sync stored
 --     registers-opened, registers-reset                 zeros, after an opening and after a reset
@@ -7,7 +8,7 @@
 --     pop-writes-no-word, return-host-writes-no-word, reset-writes-no-word, register-sync-writes-no-word
 --     pop-writes-no-cell, sync-writes-no-cell, reset-writes-no-cell, register-sync-writes-no-cell, set-writes-no-word
 --     restore-changes-nothing, part-changes-nothing     the whole world is as it was
-use mathlib.Core.Path.{_≡_, refl, sym, ap, subst, _∙_}
+use mathlib.Core.Path.{_≡_, refl, ap, _∙_}
 use mathlib.Core.Bool.{true}
 use mathlib.Core.List.{List, [], _∷_}
 use Prim.Native.Nat.{ℕ, _+_, _≤_}
@@ -30,16 +31,12 @@ use Rattle.rules.specs.Syncs.{topRoom, synced, restored, emptied, setRoo
 use Rattle.rules.specs.Rules.{effectOf, answered}
 use Rattle.rules.specs.Events.{Event, asks, hostWrote, steppedBy, ranThrough, KeepsRegisters, AllKeepRegisters}
 use Rattle.rules.specs.Open.{stackOpened}
-use Rattle.rules.proofs.Verdicts.{AskedVerdict, accepted, refused, asked-verdict, accepted-then, done-then, OpeningVerdict, opening-done, opening-refused, opening-verdict}
+use Rattle.rules.proofs.Verdicts.{answered-either, accepted-then, done-then, OpeningVerdict, opening-done, opening-refused, opening-verdict}
 use Rattle.rules.proofs.SoundMoves.{grown-longer}
 
 -- what the step keeps is kept by the request: a refusal changes nothing
-kept-by-effect : {A : Type 0} (f : World → A) (w : World) (a : Asked) → f (effectOf w a .world) ≡ f w → f (answered w a .world) ≡ f w
-kept-by-effect f w a k = by (asked-verdict w a)
-  where
-    by : AskedVerdict w a → f (answered w a .world) ≡ f w
-    by (accepted p e) = ap (λ o. f (o .world)) e ∙ k
-    by (refused n p two e) = ap (λ o. f (o .world)) e
+pub kept-by-effect : {A : Type 0} (f : World → A) (w : World) (a : Asked) → f (effectOf w a .world) ≡ f w → f (answered w a .world) ≡ f w
+kept-by-effect f w a k = answered-either (λ (o : After). f (o .world) ≡ f w) w a (λ p. k) (λ n. refl)
 
 -- what was answered 0 had its effect
 done-zero : (w : World) (a : Asked) → answered w a .shown .number ≡ 0 → answered w a ≡ effectOf w a
@@ -102,11 +99,7 @@ effect-len w (SyncRegs regs) n = omega arith
 effect-len w (HostPart frame) n = omega arith
 
 pub len-falls-by-reset : (w : World) (a : Asked) → (a ≡ Traced Reset → ⊥) → w .state .len ≤ answered w a .world .state .len
-len-falls-by-reset w a n = by (asked-verdict w a)
-  where
-    by : AskedVerdict w a → w .state .len ≤ answered w a .world .state .len
-    by (accepted p e) = subst (λ (o : After). w .state .len ≤ o .world .state .len) (sym e) (effect-len w a n)
-    by (refused m p two e) = subst (λ (o : After). w .state .len ≤ o .world .state .len) (sym e) (omega arith)
+len-falls-by-reset w a n = answered-either (λ (o : After). w .state .len ≤ o .world .state .len) w a (λ p. effect-len w a n) (λ m. omega arith)
 
 -- ---- words and cells
 abbrev wordsIn : World → List ℕ

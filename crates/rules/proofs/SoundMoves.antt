@@ -25,7 +25,7 @@ use Rattle.frames.proofs.Debts.{ip-broken, longer-good}
 use Rattle.rules.specs.World.{World, frameAt, topFrame, movedTo, withRegisters}
 use Rattle.rules.specs.Shared.{grownTo, ipStored, topIpStored}
 use Rattle.rules.specs.Sound.{Sound}
-use Rattle.rules.proofs.GoodStates.{GoodState, good-state}
+use Rattle.rules.proofs.GoodStates.{GoodState, good-state, good-words}
 
 pub sound-state : (w : World) → Sound w → GoodState w
 sound-state w h = good-state w .0 (h .state)
@@ -47,7 +47,7 @@ length-ipStored D words n (Value ip) = length-putIp D words (n - 1) ip
 
 module _ (w : World) (h : Sound w) where
   pub words-there : tooFewWords (length (w .words)) (w .state .depth) ≡ false
-  words-there = rw (sound-state w h .words-lent) (sound-state w h .words-enough)
+  words-there = good-words w (sound-state w h)
 
   pub rows-longer : (len : ℕ) → w .state .len ≤ len → (j : ℕ) → j < w .state .count → brokenRow (frameAt w j) len ≡ false
   rows-longer len more j b = longer-good (frameAt w j) (w .state .len) len more (h .frames j b)

@@ -42,7 +42,7 @@ use Rattle.rules.specs.Events.{Event, asks, hostWrote, steppedBy, ranThr
 use Rattle.rules.specs.Open.{maxBytes, openTests, freshState, Opened, stackOpened}
 use Rattle.rules.specs.Broken.{maxDepth, maxCells}
 use Rattle.rules.specs.Sound.{Sound}
-use Rattle.rules.proofs.Verdicts.{AskedVerdict, accepted, refused, asked-verdict, exactly-then, OpeningVerdict, opening-done, opening-refused, opening-verdict}
+use Rattle.rules.proofs.Verdicts.{answered-either, exactly-then, OpeningVerdict, opening-done, opening-refused, opening-verdict}
 use Rattle.rules.proofs.GoodStates.{good-state, top-start-within, sound-top, sound-next}
 use Rattle.rules.proofs.SoundMoves.{sound-state, rows-put, length-ipStored, words-there, rows-longer, rows-stored, moved-sound, registers-sound, grown-longer, GrownWithin, grown-within, length-either}
 
@@ -161,11 +161,7 @@ module _ (w : World) (h : Sound w) where
 
 -- ---- all that happens
 pub step-sound : (w : World) (a : Asked) → Sound w → Sound (answered w a .world)
-step-sound w a h = by (asked-verdict w a)
-  where
-    by : AskedVerdict w a → Sound (answered w a .world)
-    by (accepted p e) = subst (λ (o : After). Sound (o .world)) (sym e) (effect-sound w h a p)
-    by (refused n p two e) = subst (λ (o : After). Sound (o .world)) (sym e) h
+step-sound w a h = answered-either (λ (o : After). Sound (o .world)) w a (effect-sound w h a) (λ n. h)
 
 written-sound : (w : World) (at : ℕ) (values : List ℕ) → Sound w → Sound (steppedBy w (hostWrote at values))
 unfolding steppedBy

@@ -1,13 +1,14 @@
 -- One law for everything asked: every test is false and it has its effect, or it is refused with the number of its first true test and nothing
 -- changes. From it, when each number is given. The same of openings. Assumes nothing.
 --     asked-verdict                      that law
+--     answered-either                    so what holds of the step and of every refusal holds of the answer
 --     exactly-then, accepted-then        a refusal's number is given exactly when the first true test has it; none exactly when all tests are false
 --     done-then                          where all tests are false, it has its effect
 --     refused-unchanged                  what is refused changes nothing and hands back zeros
 --     part-exactly-11                    a host's part is refused with 11 exactly when document 01 says so
 --     opening-verdict, opened-number     the law of openings: done with 0, or refused with 14
 --     exactly-14, refused-opening        when an opening is refused, and what it then hands back
-use mathlib.Core.Path.{_≡_, refl, sym, ap, _∙_}
+use mathlib.Core.Path.{_≡_, refl, sym, ap, subst, _∙_}
 use mathlib.Core.Bool.{Bool, true, false, true≢false}
 use mathlib.Core.Logic.{_↔_, Iff·trans, _⊎_, inl, inr}
 use Prim.Native.Nat.{ℕ, _≤_, _<_, _/_}
@@ -49,6 +50,13 @@ asked-verdict w a = by (verdict (testsOf w a))
     by : Verdict (testsOf w a) → AskedVerdict w a
     by (passes p) = accepted p (accepts (refusedWith w) (effectOf w a) (testsOf w a) p)
     by (fails n p) = refused n p (at-least-two p (numbered w a)) (refuses (refusedWith w) (effectOf w a) p)
+
+pub answered-either : (P : After → Type 0) (w : World) (a : Asked) → (Passed (testsOf w a) → P (effectOf w a)) → ((n : ℕ) → P (refusedWith w n)) → P (answered w a)
+answered-either P w a done refusal = by (asked-verdict w a)
+  where
+    by : AskedVerdict w a → P (answered w a)
+    by (accepted p e) = subst P (sym e) (done p)
+    by (refused n p two e) = subst P (sym e) (refusal n)
 
 -- ---- the number
 

@@ -6,7 +6,7 @@ use mathlib.Core.Bool.{Bool, true, false, _&&_}
 use mathlib.Core.List.{List, [], _∷_}
 use Prim.Native.Nat.{ℕ, _*_}
 use lib.Dec.{eqb}
-use lib.ListN.{length, replicate, getD}
+use lib.ListN.{length, replicate}
 use Rattle.given.specs.declared.Given.{Given}
 use Rattle.given.specs.declared.Given.the-variants.{Absent, Value}
 use Rattle.given.specs.Given.{givenNumber}
@@ -15,7 +15,7 @@ use Rattle.frames.specs.Debts.{flagOf}
 use Rattle.rules.specs.declared.Request.{Request}
 use Rattle.rules.specs.declared.Request.the-variants.{Push, Pop, Replace, ReturnHost, Set}
 use Rattle.rules.specs.declared.Asked.the-variants.{Traced}
-use Rattle.rules.specs.World.{World, worldOf, frameAt}
+use Rattle.rules.specs.World.{World, worldOf, frameAt, cellAt}
 use Rattle.rules.specs.Answers.{After}
 use Rattle.rules.specs.Rules.{answered}
 use Rattle.rules.specs.Open.{stackOpened}
@@ -78,9 +78,6 @@ numberSeen t = t .shown .number
 abbrev pub numberAt : World → Request → ℕ
 numberAt w r = numberSeen (answered w (Traced r))
 
-abbrev pub cellSeen : World → ℕ → ℕ
-cellSeen w k = getD (w .cells) k 0
-
 -- the current instance, as a flag and a number
 abbrev pub currentFlag : World → ℕ
 currentFlag w = flagOf (w .state .current)
@@ -96,7 +93,7 @@ casesTable =
     -- K2: cell 3, the debt, the current instance, the first ip; the pop's ip and start, the current instance, `len`
     ∷ (let w = edgeWorld (pushP ∷ pushQ ∷ []) in
     let t = answered w (Traced (Pop 2)) in
-    cellSeen w 3 ∷ frameAt w 1 .flag ∷ frameAt w 1 .debt ∷ currentFlag w ∷ currentNumber w ∷ frameAt w 0 .ip
+    cellAt w 3 ∷ frameAt w 1 .flag ∷ frameAt w 1 .debt ∷ currentFlag w ∷ currentNumber w ∷ frameAt w 0 .ip
     ∷ numberSeen t ∷ t .shown .values .ip ∷ t .shown .values .offset ∷ currentFlag (t .world) ∷ currentNumber (t .world) ∷ t .world .state .len
     ∷ [])
     ⊳ (0 ∷ 1 ∷ 1 ∷ 1 ∷ 2 ∷ 101 ∷ 0 ∷ 101 ∷ 0 ∷ 1 ∷ 1 ∷ 5 ∷ [])
@@ -115,7 +112,7 @@ casesTable =
     ∷ (let w = edgeWorld (pushP ∷ pushQ ∷ []) in
     let t = answered w (Traced (Set 1 9)) in
     let u = answered (t .world) (Traced (replaceBy 1 1 2 3 (Value 1))) in
-    numberSeen t ∷ numberSeen u ∷ cellSeen (u .world) 2 ∷ cellSeen (u .world) 3
+    numberSeen t ∷ numberSeen u ∷ cellAt (u .world) 2 ∷ cellAt (u .world) 3
     ∷ frameAt (u .world) 1 .flag ∷ frameAt (u .world) 1 .debt ∷ currentFlag (u .world) ∷ currentNumber (u .world)
     ∷ [])
     ⊳ (0 ∷ 0 ∷ 9 ∷ 0 ∷ 1 ∷ 1 ∷ 1 ∷ 1 ∷ [])

@@ -4,10 +4,12 @@ pub mod Calls
 pub mod Cases
 pub mod Events
 pub mod Hosts
+pub mod Limits
 pub mod Open
 pub mod Reached
 pub mod ReachedWorlds
 pub mod Returns
+pub mod Returning
 pub mod Rules
 pub mod Shared
 pub mod Sound

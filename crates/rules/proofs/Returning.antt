@@ -13,8 +13,8 @@ use native.Mathlib.Omega.{arith}
 use lib.Dec.{eqb}
 use lib.ListN.{getD}
 use borrow.Author.Tests.{eqb-true, ne-eqb, not-false}
-use Rattle.choice.specs.Choose.{choose}
 use Rattle.choice.specs.Tests.{Passed}
+use Rattle.choice.proofs.Choices.{chosen-second}
 use Rattle.given.specs.declared.Given.{Given}
 use Rattle.given.specs.declared.Given.the-variants.{Absent, Value}
 use Rattle.given.specs.Given.{isGiven, givenNumber, givenOrElse}
@@ -28,18 +28,18 @@ use Rattle.rules.specs.declared.Request.the-variants.{Push, Pop, ReturnH
 use Rattle.rules.specs.declared.Asked.the-variants.{Traced}
 use Rattle.rules.specs.declared.Room.{Room}
 use Rattle.rules.specs.World.{World, frameAt, topFrame, nextFrame, cellAt, topStart}
-use Rattle.rules.specs.Answers.{After, afterOf}
+use Rattle.rules.specs.Answers.{shownOf, After, afterOf}
 use Rattle.rules.specs.Broken.{brokenTop}
 use Rattle.rules.specs.Shared.{topIpStored}
 use Rattle.rules.specs.Calls.{missingIp, pushTests, pushRoom, pushed}
-use Rattle.rules.specs.Returns.{instanceAfter, returnedTo, lessTop, popRoom, popped}
+use Rattle.rules.specs.Returns.{callerValues, returnedTo, lessTop, popRoom, popped}
 use Rattle.rules.specs.Hosts.{returnHostRoom, returnedHost}
 use Rattle.rules.specs.Rules.{effectOf, answered}
 use Rattle.rules.specs.Events.{Event, ranThrough}
 use Rattle.rules.specs.Returning.{Accepted, theCall, ipGiven, NeverBelow, Unwritten, Gives, by-pop, by-host, CallerResumed, ReturnTheorem}
 use Rattle.rules.proofs.Verdicts.{accepted-then, done-then}
 use Rattle.rules.proofs.Unwinding.{owed, owed-none, owed-newest}
-use Rattle.rules.proofs.Standing.{top-start, stored-top, stored-below, Standing, callee-below, push-stands, push-leaves, effect-leaves}
+use Rattle.rules.proofs.Standing.{top-start, debt-made-good, stored-top, stored-below, Standing, callee-below, push-stands, push-leaves, effect-leaves}
 use Rattle.rules.proofs.Between.{run-above, run-stands, run-leaves}
 
 -- ---- the call
@@ -88,6 +88,11 @@ named-instance Absent c A i e (inl t) = absurd (false≢true t)
 named-instance Absent c A i e (inr (inl same)) = same
 named-instance Absent c A i e (inr (inr is)) = ap givenNumber (sym is ∙ e)
 
+-- with more than one frame, a return shows the next
+caller-shown : (n : ℕ) (top next : Row) (i : ℕ) (host : HostFrame) → 1 < n → returnedTo n top next i host ≡ shownOf 0 (callerValues top next i host)
+unfolding returnedTo
+caller-shown n top next i host more = sym (chosen-second _ _ _ _ (eqb n _) (ne-eqb n _ (λ e. omega arith)) refl)
+
 module _ (w : World) (A : ℕ) (q : PushArgs) (some : 0 < w .state .count) (passed : Passed (pushTests w q)) (es : List Event) (v : World)
     (h : Standing (leftBehind w q) (w .state .count) (topStart w + q .head) A v) (one : v .state .count ≡ suc (w .state .count)) where
   -- the callee's frame is the newest, and its debt, or else the current instance, the caller's
@@ -108,17 +113,16 @@ module _ (w : World) (A : ℕ) (q : PushArgs) (some : 0 < w .state .count) (pass
       → ((k : ℕ) → k < topStart w + q .head → Unwritten k es → getD cells k 0 ≡ cellAt w k)
       → CallerResumed w A (ipGiven q) (topStart w + q .head) es v i
       (afterOf (returnedTo (v .state .count) (topFrame v) (nextFrame v) i host) (lessTop v room cells))
-  unfolding instanceAfter returnedTo choose
   resumed i host room cells kept =
-      let more : eqb (v .state .count) 1 ≡ false = ne-eqb (v .state .count) 1 (omega arith) in
       let next : v .state .count - 2 ≡ w .state .count - 1 = omega arith in
       let caller : nextFrame v ≡ withIp (topFrame w) (ipGiven q) = ap (frameAt v) next ∙ resumed-caller in
       let named = named-instance (debtOf (topFrame v)) (v .state .current) A i woken in
-      rw more
+      subst (λ shown. CallerResumed w A (ipGiven q) (topStart w + q .head) es v i (afterOf shown (lessTop v room cells)))
+      (sym (caller-shown (v .state .count) (topFrame v) (nextFrame v) i host (omega arith)))
       (record {
         older-frames = λ j b. h .below j (omega arith) ∙ stored-below w (q .caller) j b;
         caller-frame = resumed-caller;
-        same-instance = woken;
+        same-instance = debt-made-good (v .state) (topFrame v) (omega arith) ∙ woken;
         answer-zero = refl;
         names-ip = ap (λ row. row .ip) caller;
         names-start = ap (λ row. row .start) caller ∙ sym (top-start w some);

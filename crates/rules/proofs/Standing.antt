@@ -2,6 +2,7 @@
 -- the newest frame's start. Assumes nothing.
 --     top-start                      the start of the newest frame, where there is one
 --     stored-below, stored-top       the rows after an ip was stored in the newest frame
+--     debt-made-good                 what a return leaves current, where a frame is left
 --     Standing                       what holds of a world since the call; `callee-below` that the newest frame then starts no earlier than the callee
 --     push-stands, effect-stands     a push, over rows that keep it; and whatever is accepted
 --     push-leaves, effect-leaves     the cells before the new start; and those before the newest frame's
@@ -16,6 +17,7 @@ use lib.ListN.{length, getD}
 use borrow.Author.Tests.{ne-eqb, eqb-false}
 use Rattle.choice.specs.Choose.{choose}
 use Rattle.choice.specs.Tests.{Passed}
+use Rattle.choice.proofs.Choices.{chosen-second}
 use Rattle.given.specs.declared.Given.{Given}
 use Rattle.given.specs.declared.Given.the-variants.{Absent, Value}
 use Rattle.given.specs.Given.{isGiven, givenOrElse}
@@ -25,6 +27,7 @@ use Rattle.frames.specs.Debts.{newRow, debtOf}
 use Rattle.frames.proofs.Rows.{row-same, row-other, ip-same, ip-other}
 use Rattle.frames.proofs.Debts.{new-start, new-debt, ip-debt, repaid, repaid-over}
 use Rattle.cells.proofs.Cells.{push-kept, replace-kept, host-kept, return-host-kept, set-other}
+use Rattle.rules.specs.declared.State.{State}
 use Rattle.rules.specs.declared.PushArgs.{PushArgs}
 use Rattle.rules.specs.declared.ReplaceArgs.{ReplaceArgs}
 use Rattle.rules.specs.declared.Room.{Room}
@@ -71,6 +74,11 @@ pub stored-below : (w : World) (g : Given) (j : ℕ) → j < w .state .count - 1
 unfolding ipStored
 stored-below w Absent j b = refl
 stored-below w (Value ip) j b = ip-other (w .state .depth) (w .words) (w .state .count - 1) ip j (λ e. omega arith)
+
+-- with more than one frame, the debt of the newest is made good when it goes
+pub debt-made-good : (s : State) (top : Row) → 1 < s .count → instanceAfter s top ≡ givenOrElse (debtOf top) (s .current)
+unfolding instanceAfter
+debt-made-good s top more = sym (chosen-second _ _ _ _ (eqb (s .count) _) (ne-eqb (s .count) _ (λ e. omega arith)) refl)
 
 -- ---- the frames
 module _ (B : ℕ → Row) (i s A : ℕ) where
@@ -159,11 +167,11 @@ module _ (B : ℕ → Row) (i s A : ℕ) where
 
   return-stands : (w : World) → Standing w → i < w .state .count - 1 → (room : Room) → room .count ≡ w .state .count - 1
       → Standing (lessTop w room (w .cells))
-  unfolding instanceAfter choose
   return-stands w h c room less =
       let e : w .state .count ≡ suc (w .state .count - 1) = omega arith in
-      rw (less, ne-eqb (w .state .count) 1 (omega arith))
-      (since-popped (w .state .count - 1) (subst (λ n. Since B i s A (frameAt w) n (w .state .current)) e h) (omega arith))
+      rw less
+      (subst (λ d. Since B i s A (frameAt w) (w .state .count - 1) d) (sym (debt-made-good (w .state) _ (omega arith)))
+      (since-popped (w .state .count - 1) (subst (λ n. Since B i s A (frameAt w) n (w .state .current)) e h) (omega arith)))
 
   pub effect-stands : (w : World) (a : Asked) → Standing w → i < w .state .count → Passed (testsOf w a) → i < effectOf w a .world .state .count
       → Standing (effectOf w a .world)
@@ -175,7 +183,7 @@ module _ (B : ℕ → Row) (i s A : ℕ) where
   effect-stands w (Traced (Replace q)) h c p d = replace-stands w q h c p
   effect-stands w (Traced (Host q)) h c p d = ip-stands w h c (p .0) (q .caller)
   effect-stands w (Traced (ReturnHost q)) h c p d = return-stands w h d (returnHostRoom w q) refl
-  effect-stands w (Traced (Sync ip)) h c p d = ip-stands w h c (p .0) (Value ip)
+  effect-stands w (Traced (Sync ip)) h c p d = ip-stands w h c (p .0) _
   effect-stands w (Traced Restore) h c p d = h
   effect-stands w (Traced Reset) h c p d = absurd (omega arith)
   effect-stands w (Traced (Set head cell)) h c p d = h

@@ -1,20 +1,23 @@
 -- The parts that `host_results` hands out lie inside the host's frame that it was asked with: one with cells begins at the frame's start and ends no later
--- than the frame. Assumes nothing.
+-- than the frame. What the routine of `call_host` writes lies there too. Assumes nothing.
 use mathlib.Core.Path.{_≡_, refl, ap, _∙_}
 use mathlib.Core.Bool.{Bool, true, false}
-use mathlib.Core.List.{[]}
-use Prim.Native.Nat.{_+_, _≤_, _<_}
+use mathlib.Core.List.{List, []}
+use Prim.Native.Nat.{ℕ, _+_, _≤_, _<_}
 use native.Mathlib.Omega.{arith}
-use lib.ListN.{length}
+use lib.ListN.{length, take, length-take}
 use denote.Ref.{ptr, now}
 use Rattle.choice.specs.Choose.{choose}
+use Rattle.choice.specs.Tests.{Passed}
+use Rattle.choice.proofs.Verdict.{Verdict, passes, fails, verdict, accepts, refuses}
 use Rattle.cells.specs.declared.host.HostFrame.{HostFrame}
 use Rattle.cells.specs.Host.{hostSize, hostPart, cellPlace}
-use Rattle.cells.proofs.Hosts.{results-inside}
+use Rattle.cells.proofs.Hosts.{FrameSized, no-cells, sized, frame-sized, results-inside}
 use Rattle.rules.specs.World.{World, worldOf}
 use Rattle.rules.specs.Broken.{brokenState}
-use Rattle.rules.specs.Hosts.{partCells, partPlace}
-use Rattle.histories.specs.Promised.{PartsInside}
+use Rattle.rules.specs.Hosts.{partTests, partCells, partPlace}
+use Rattle.histories.specs.Chains.{routineWrites}
+use Rattle.histories.specs.Promised.{PartsInside, RoutineInside}
 
 -- where it has cells
 abbrev LentWithin : World → HostFrame → Type 0
@@ -37,3 +40,21 @@ parts-inside κ a r e p values some fits =
     let within = lent-within w f (omega arith) in
     let end = within .1 in
     (p .0 ∙ ap (cellPlace (ptr (a .1 .1 .0))) (within .0), (omega arith, omega arith))
+
+-- ---- the routine
+fits-size : (w : World) (f : HostFrame) (vs : List ℕ) → Passed (partTests w f) → f .start ≤ f .end → f .start + length (take (hostSize (f .params) (f .results)) vs) ≤ f .end
+unfolding partTests
+fits-size w f vs p rises =
+    by (frame-sized f (w .state .len) .0 (p .1 .0))
+  where
+    by : FrameSized f (w .state .len) → f .start + length (take (hostSize (f .params) (f .results)) vs) ≤ f .end
+    by (no-cells a b) = let size = length-take (hostSize (f .params) (f .results)) vs in omega arith
+    by (sized a b c) = let size = length-take (hostSize (f .params) (f .results)) vs in omega arith
+
+pub routine-inside : RoutineInside
+unfolding routineWrites
+routine-inside w f rises = (omega arith, by (verdict (partTests w f)))
+  where
+    by : Verdict (partTests w f) → f .start + length (routineWrites w f) ≤ f .end
+    by (passes p) = rw (accepts (λ n. []) _ (partTests w f) p) (fits-size w f _ p rises)
+    by (fails n p) = rw (refuses (λ n. []) _ p) (omega arith)

@@ -4,12 +4,14 @@
 --     PromisedReturn            the caller is resumed, in the same words
 --     PromisedConfinement       and no cell before the callee's start has changed, where hosts keep to the parts that they are lent
 --     PartsInside               who writes through the part that `host_results` hands out keeps to the host's frame that it was asked with
+--     RoutineInside             and so does the routine of `call_host`
 use mathlib.Core.Path.{_≡_}
 use mathlib.Core.List.{List}
 use Prim.Native.Nat.{ℕ, _≤_, _<_}
 use lib.ListN.{length}
 use denote.Ref.{ptr, now}
 use Rattle.given.specs.declared.Given.the-variants.{Value}
+use Rattle.cells.specs.declared.host.HostFrame.{HostFrame}
 use Rattle.cells.specs.Host.{cellPlace}
 use Rattle.rules.specs.declared.PushArgs.{PushArgs}
 use Rattle.rules.specs.declared.Request.{Request}
@@ -20,7 +22,7 @@ use Rattle.rules.specs.Answers.{noHost, After}
 use Rattle.rules.specs.Events.{Event}
 use Rattle.rules.specs.Returning.{Accepted, ipGiven, Gives, CallerResumed, Inside}
 use Rattle.stack_hosts.proofs.host_results.Reads as host-results
-use Rattle.histories.specs.Chains.{Told, Chain, ChainKeeps}
+use Rattle.histories.specs.Chains.{Told, routineWrites, Chain, ChainKeeps}
 
 pub record CalledByPromise (w : World) (A : ℕ) (q : PushArgs) (call : After) (es : List Event) (v : World) (r : Request) (i : ℕ) (back : After) : Type 0 where
   pub has-caller : 0 < w .state .count
@@ -57,3 +59,7 @@ PartsInside =
     → 0 < length values
     → length values ≤ length (now r)
     → (ptr r ≡ cellPlace (ptr (a .1 .1 .0)) (a .1 .1 .1 .0 .start)) × Inside (a .1 .1 .1 .0 .start) values (a .1 .1 .1 .0)
+
+-- every frame that a request hands out ends at its start or behind it
+abbrev pub RoutineInside : Type 0
+RoutineInside = (w : World) (f : HostFrame) → f .start ≤ f .end → Inside (f .start) (routineWrites w f) f

@@ -1,3 +1,3 @@
 pub mod Chains
 pub mod Parts
-pub mod Promised
+pub mod Returning

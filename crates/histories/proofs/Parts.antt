@@ -17,7 +17,7 @@ use Rattle.rules.specs.World.{World, worldOf}
 use Rattle.rules.specs.Broken.{brokenState}
 use Rattle.rules.specs.Hosts.{partTests, partCells, partPlace}
 use Rattle.histories.specs.Chains.{routineWrites}
-use Rattle.histories.specs.Promised.{PartsInside, RoutineInside}
+use Rattle.histories.specs.Parts.{PartsInside, RoutineInside}
 
 -- where it has cells
 abbrev LentWithin : World → HostFrame → Type 0

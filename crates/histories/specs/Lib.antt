@@ -1,2 +1,3 @@
 pub mod Chains
-pub mod Promised
+pub mod Parts
+pub mod Returning

@@ -1,7 +1,6 @@
 -- The return theorem in the hands of a caller, from that of rules: each link of the chain is what the definitions answer. Assumes nothing.
 --     promised-return             what is assumed of the promises gives what rules assumes, and what rules concludes is what was told
 --     promised-confinement        and so of hosts that keep to what they are lent
---     results-kept-inside         what is written through the part that `host_results` hands out lies inside the host's frame
 use mathlib.Core.Path.{_≡_, sym, ap, subst, _∙_}
 use mathlib.Core.List.{List}
 use Prim.Native.Nat.{ℕ, _<_}
@@ -16,7 +15,7 @@ use Rattle.rules.specs.Returning.{Accepted, theCall, ipGiven, NeverBelow, befor
 use Rattle.rules.proofs.Returning.{return-theorem}
 use Rattle.rules.proofs.Confined.{confined-hosts}
 use Rattle.histories.specs.Chains.{ChainKeeps}
-use Rattle.histories.specs.Promised.{CalledByPromise, PromisedReturn, PromisedConfinement}
+use Rattle.histories.specs.Returning.{CalledByPromise, PromisedReturn, PromisedConfinement}
 use Rattle.histories.proofs.Chains.{told-answered, chain-ran, chain-above, chain-kept}
 
 module _ (w : World) (A : ℕ) (q : PushArgs) (call : After) (es : List Event) (v : World) (r : Request) (i : ℕ) (back : After)

@@ -24,6 +24,6 @@ PartsInside =
     → length values ≤ length (now r)
     → (ptr r ≡ cellPlace (ptr (a .1 .1 .0)) (a .1 .1 .1 .0 .start)) × Inside (a .1 .1 .1 .0 .start) values (a .1 .1 .1 .0)
 
--- every frame that a request hands out ends at its start or behind it
+-- every frame that a request hands out ends at its start or behind it (`handed-out-rises` of rules)
 abbrev pub RoutineInside : Type 0
 RoutineInside = (w : World) (f : HostFrame) → f .start ≤ f .end → Inside (f .start) (routineWrites w f) f

@@ -1,5 +1,6 @@
 -- Hosts that keep to what they are lent: every part handed out since the call lies from the callee's start on, so a host that writes inside the part of
 -- the request just before writes no cell before it. Assumes nothing.
+--     handed-out-rises       a frame that is handed out ends at its start or behind it
 --     kept-unwritten         of any run since the call
 --     hosts-write-behind     of the run between a call and its return
 --     confined-hosts         so no cell before the callee's start has changed at the return
@@ -9,7 +10,7 @@ use mathlib.Core.Logic.{_⊎_, inl, inr}
 use mathlib.Core.List.{List, [], _∷_}
 use Prim.Native.Nat.{ℕ, _+_, _≤_, _<_}
 use native.Mathlib.Omega.{arith}
-use lib.Dec.{eqb}
+use lib.Dec.{eqb, lit≤}
 use lib.ListN.{length}
 use Rattle.choice.specs.Choose.{choose}
 use Rattle.frames.specs.declared.row.Row.{Row}
@@ -23,7 +24,7 @@ use Rattle.rules.specs.World.{World, topFrame, nextFrame, topStart}
 use Rattle.rules.specs.Answers.{noHost, hostOf, hostValues, shownOf, After, refusedWith}
 use Rattle.rules.specs.Calls.{pushed, replaced}
 use Rattle.rules.specs.Returns.{callerValues, returnedTo, popped}
-use Rattle.rules.specs.Hosts.{isSized, hostRoom, hosted, returnHostRoom, returnedHost}
+use Rattle.rules.specs.Hosts.{isSized, hostRoom, hosted, returnHostRoom, returnedHost, partLent}
 use Rattle.rules.specs.Syncs.{synced, restored, emptied, cellSet, registersStored}
 use Rattle.rules.specs.Rules.{effectOf, answered}
 use Rattle.rules.specs.Events.{Event, asks, hostWrote, steppedBy}
@@ -78,6 +79,34 @@ refused-from s n w (Traced r) lent held = inr refl
 ask-from : (s : ℕ) (w : World) (a : Asked) (lent : HostFrame) → s ≤ topStart w → From s lent → From s (lentBy lent a (answered w a .shown))
 ask-from s w a lent h held =
     answered-either (λ (o : After). From s (lentBy lent a (o .shown))) w a (λ p. effect-from s w a lent h held) (λ n. refused-from s n w a lent held)
+
+-- ---- a frame that is handed out ends at its start or behind it
+abbrev Rises : HostFrame → Type 0
+Rises host = host .start ≤ host .end
+
+sized-rises : (start end params results : ℕ) (sized : Bool) → start ≤ end → Rises (choose sized (hostOf start end params results) noHost)
+unfolding choose
+sized-rises start end params results true h = h
+sized-rises start end params results false h = lit≤ tt
+
+effect-rises : (w : World) (a : Asked) → Rises (effectOf w a .shown .values .host)
+unfolding pushed popped replaced hostRoom hosted returnHostRoom returnedHost synced restored emptied cellSet registersStored partLent
+effect-rises w (Traced (Push q)) = lit≤ tt
+effect-rises w (Traced (Pop instance)) = subst Rises (sym (returned-host (w .state .count) (topFrame w) (nextFrame w) instance noHost)) (lit≤ tt)
+effect-rises w (Traced (Replace q)) = lit≤ tt
+effect-rises w (Traced (Host q)) = omega arith
+effect-rises w (Traced (ReturnHost q)) =
+    subst Rises (sym (returned-host (w .state .count) (topFrame w) (nextFrame w) (q .instance) _))
+    (sized-rises (topStart w) _ (q .params) (q .results) (isSized (q .params) (q .results)) (omega arith))
+effect-rises w (Traced (Sync ip)) = lit≤ tt
+effect-rises w (Traced Restore) = lit≤ tt
+effect-rises w (Traced Reset) = lit≤ tt
+effect-rises w (Traced (Set head cell)) = lit≤ tt
+effect-rises w (SyncRegs regs) = lit≤ tt
+effect-rises w (HostPart frame) = lit≤ tt
+
+pub handed-out-rises : (w : World) (a : Asked) → answered w a .shown .values .host .start ≤ answered w a .shown .values .host .end
+handed-out-rises w a = answered-either (λ (o : After). Rises (o .shown .values .host)) w a (λ p. effect-rises w a) (λ n. lit≤ tt)
 
 -- ---- what is written
 inside-from : (s k at : ℕ) (values : List ℕ) (lent : HostFrame) → From s lent → Inside at values lent → k < s → (k < at) ⊎ (at + length values ≤ k)

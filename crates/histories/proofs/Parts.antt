@@ -42,7 +42,8 @@ parts-inside κ a r e p values some fits =
     (p .0 ∙ ap (cellPlace (ptr (a .1 .1 .0))) (within .0), (omega arith, omega arith))
 
 -- ---- the routine
-fits-size : (w : World) (f : HostFrame) (vs : List ℕ) → Passed (partTests w f) → f .start ≤ f .end → f .start + length (take (hostSize (f .params) (f .results)) vs) ≤ f .end
+fits-size : (w : World) (f : HostFrame) (vs : List ℕ) → Passed (partTests w f) → f .start ≤ f .end
+    → f .start + length (take (hostSize (f .params) (f .results)) vs) ≤ f .end
 unfolding partTests
 fits-size w f vs p rises =
     by (frame-sized f (w .state .len) .0 (p .1 .0))

@@ -133,7 +133,8 @@ module _ (B : ℕ → Row) (i s A : ℕ) where
       t
       (ap (λ row. givenOrElse (debtOf row) d) top ∙ ap (λ owes. givenOrElse owes d) (new-debt ip start debt) ∙ good)
 
-  row-on-top : (D : ℕ) (words : List ℕ) (n : ℕ) (c : Given) → Since B i s A (rowAt D words) n c → i ≤ n → RowThere D words n → (ip start : ℕ) (debt d : Given)
+  row-on-top : (D : ℕ) (words : List ℕ) (n : ℕ) (c : Given) → Since B i s A (rowAt D words) n c → i ≤ n → RowThere D words n
+      → (ip start : ℕ) (debt d : Given)
       → s ≤ start → isGiven d ≡ true → givenOrElse debt d ≡ c
       → Since B i s A (rowAt D (putRow D words n (newRow ip start debt))) (n + 1) d
   row-on-top D words n c h low there ip start debt d late t good =

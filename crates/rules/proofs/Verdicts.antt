@@ -51,7 +51,8 @@ asked-verdict w a = by (verdict (testsOf w a))
     by (passes p) = accepted p (accepts (refusedWith w) (effectOf w a) (testsOf w a) p)
     by (fails n p) = refused n p (at-least-two p (numbered w a)) (refuses (refusedWith w) (effectOf w a) p)
 
-pub answered-either : (P : After → Type 0) (w : World) (a : Asked) → (Passed (testsOf w a) → P (effectOf w a)) → ((n : ℕ) → P (refusedWith w n)) → P (answered w a)
+pub answered-either : (P : After → Type 0) (w : World) (a : Asked) → (Passed (testsOf w a) → P (effectOf w a)) → ((n : ℕ) → P (refusedWith w n))
+    → P (answered w a)
 answered-either P w a done refusal = by (asked-verdict w a)
   where
     by : AskedVerdict w a → P (answered w a)

@@ -1,6 +1,6 @@
 -- The parts that `host_results` hands out lie inside the host's frame that it was asked with: one with cells begins at the frame's start and ends no later
 -- than the frame. What the routine of `call_host` writes lies there too. Assumes nothing.
-use mathlib.Core.Path.{_≡_, refl, ap, _∙_}
+use mathlib.Core.Path.{_≡_, refl, sym, ap, subst, _∙_}
 use mathlib.Core.Bool.{Bool, true, false}
 use mathlib.Core.List.{List, []}
 use Prim.Native.Nat.{ℕ, _+_, _≤_, _<_}
@@ -14,10 +14,14 @@ use Rattle.cells.specs.declared.host.HostFrame.{HostFrame}
 use Rattle.cells.specs.Host.{hostSize, hostPart, cellPlace}
 use Rattle.cells.proofs.Hosts.{FrameSized, no-cells, sized, frame-sized, results-inside}
 use Rattle.rules.specs.World.{World, worldOf}
+use Rattle.rules.specs.Answers.{After}
 use Rattle.rules.specs.Broken.{brokenState}
 use Rattle.rules.specs.Hosts.{partTests, partCells, partPlace}
+use Rattle.rules.specs.Returning.{Inside}
+use Rattle.rules.proofs.Confined.{handed-out-rises}
 use Rattle.histories.specs.Chains.{routineWrites}
 use Rattle.histories.specs.Parts.{PartsInside, RoutineInside}
+use Rattle.histories.proofs.Chains.{told-answered}
 
 -- where it has cells
 abbrev LentWithin : World → HostFrame → Type 0
@@ -52,10 +56,15 @@ fits-size w f vs p rises =
     by (no-cells a b) = let size = length-take (hostSize (f .params) (f .results)) vs in omega arith
     by (sized a b c) = let size = length-take (hostSize (f .params) (f .results)) vs in omega arith
 
-pub routine-inside : RoutineInside
+routine-fits : (w : World) (f : HostFrame) → f .start ≤ f .end → Inside (f .start) (routineWrites w f) f
 unfolding routineWrites
-routine-inside w f rises = (omega arith, by (verdict (partTests w f)))
+routine-fits w f rises = (omega arith, by (verdict (partTests w f)))
   where
     by : Verdict (partTests w f) → f .start + length (routineWrites w f) ≤ f .end
     by (passes p) = rw (accepts (λ n. []) _ (partTests w f) p) (fits-size w f _ p rises)
     by (fails n p) = rw (refuses (λ n. []) _ p) (omega arith)
+
+pub routine-inside : RoutineInside
+routine-inside u a t told w =
+    routine-fits w (t .shown .values .host)
+    (subst (λ (o : After). o .shown .values .host .start ≤ o .shown .values .host .end) (sym (told-answered told)) (handed-out-rises u a))

@@ -1,18 +1,19 @@
 -- What hosts are lent by the functions lies inside the host's frame that it was asked with: so a host who uses them with the frame that the request just
 -- before handed out keeps to its part.
 --     PartsInside               whatever is written through the part that `host_results` hands out
---     RoutineInside             and whatever the routine of `call_host` writes
+--     RoutineInside             and whatever the routine of `call_host` writes, called with a frame that a function handed out
 use mathlib.Core.Path.{_≡_}
 use mathlib.Core.List.{List}
 use Prim.Native.Nat.{ℕ, _≤_, _<_}
 use lib.ListN.{length}
 use denote.Ref.{ptr, now}
-use Rattle.cells.specs.declared.host.HostFrame.{HostFrame}
 use Rattle.cells.specs.Host.{cellPlace}
+use Rattle.rules.specs.declared.Asked.{Asked}
 use Rattle.rules.specs.World.{World}
+use Rattle.rules.specs.Answers.{After}
 use Rattle.rules.specs.Returning.{Inside}
 use Rattle.stack_hosts.proofs.host_results.Reads as host-results
-use Rattle.histories.specs.Chains.{routineWrites}
+use Rattle.histories.specs.Chains.{Told, routineWrites}
 
 -- a is what it was called with: the state, the words, the cells and the host's frame; r is the part. The part begins at the frame's start, and whatever
 -- fits into it lies inside the frame
@@ -24,6 +25,9 @@ PartsInside =
     → length values ≤ length (now r)
     → (ptr r ≡ cellPlace (ptr (a .1 .1 .0)) (a .1 .1 .1 .0 .start)) × Inside (a .1 .1 .1 .0 .start) values (a .1 .1 .1 .0)
 
--- every frame that a request hands out ends at its start or behind it (`handed-out-rises` of rules)
+-- t is what a function showed that was called in world u to ask for a; the routine is called in any world w, with the host's frame that t names
 abbrev pub RoutineInside : Type 0
-RoutineInside = (w : World) (f : HostFrame) → f .start ≤ f .end → Inside (f .start) (routineWrites w f) f
+RoutineInside =
+    (u : World) (a : Asked) (t : After) → Told u a t
+    → (w : World)
+    → Inside (t .shown .values .host .start) (routineWrites w (t .shown .values .host)) (t .shown .values .host)

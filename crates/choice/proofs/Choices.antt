@@ -14,6 +14,12 @@ unfolding choose
 chosen-either true a = refl
 chosen-either false a = refl
 
+-- what holds of both holds of the chosen one
+pub chosen-holds : {A : Type 0} (P : A → Type 0) (t : Bool) (a b : A) → P a → P b → P (choose t a b)
+unfolding choose
+chosen-holds P true a b p q = p
+chosen-holds P false a b p q = q
+
 module _ (A : Type 0) (v a b : A) where
   pub chosen-first : (t : Bool) → t ≡ true → v ≡ a → v ≡ choose t a b
   unfolding choose

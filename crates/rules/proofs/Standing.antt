@@ -7,7 +7,7 @@
 --     push-stands, effect-stands     a push, over rows that keep it; and whatever is accepted
 --     push-leaves, effect-leaves     the cells before the new start; and those before the newest frame's
 use mathlib.Core.Path.{_≡_, refl, sym, ap, subst, _∙_}
-use mathlib.Core.Bool.{Bool, true, false}
+use mathlib.Core.Bool.{true, false}
 use mathlib.Core.Logic.{inl}
 use mathlib.Core.List.{List}
 use Prim.Native.Nat.{ℕ, suc, _+_, _-_, _≤_, _<_}
@@ -17,7 +17,7 @@ use lib.ListN.{length, getD}
 use borrow.Author.Tests.{ne-eqb, eqb-false}
 use Rattle.choice.specs.Choose.{choose}
 use Rattle.choice.specs.Tests.{Passed}
-use Rattle.choice.proofs.Choices.{chosen-second}
+use Rattle.choice.proofs.Choices.{chosen-holds, chosen-second}
 use Rattle.given.specs.declared.Given.{Given}
 use Rattle.given.specs.declared.Given.the-variants.{Absent, Value}
 use Rattle.given.specs.Given.{isGiven, givenOrElse}
@@ -42,7 +42,7 @@ use Rattle.rules.specs.Returns.{instanceAfter, lessTop, popRoom, popped}
 use Rattle.rules.specs.Hosts.{isSized, hostTests, hostRoom, hosted, returnHostRoom, returnedHost, partLent}
 use Rattle.rules.specs.Syncs.{topRoom, syncTests, synced, restored, emptied, setRoom, cellSet, registersStored}
 use Rattle.rules.specs.Rules.{testsOf, effectOf}
-use Rattle.rules.proofs.GoodStates.{good-state, good-words, top-passed}
+use Rattle.rules.proofs.GoodStates.{good-words, top-good}
 use Rattle.rules.proofs.SoundMoves.{length-ipStored}
 use Rattle.rules.proofs.Unwinding.{Since, since-put, since-pushed, since-popped, given-either}
 
@@ -53,16 +53,16 @@ top-start w h = rw (ne-eqb (w .state .count) 0 (omega arith))
 
 module _ (w : World) (passed : brokenTop w ≡ false) where
   rows-enough : tooFewWords (length (w .words)) (w .state .depth) ≡ false
-  rows-enough = good-words w (good-state w .0 (top-passed w passed .0))
+  rows-enough = good-words w (top-good w passed)
 
   top-there : 0 < w .state .count → RowThere (w .state .depth) (w .words) (w .state .count - 1)
-  top-there some = let within = good-state w .0 (top-passed w passed .0) .count-within in (rows-enough, omega arith)
+  top-there some = let within = top-good w passed .count-within in (rows-enough, omega arith)
 
   -- there is room for one more
   next-there : eqb (w .state .count) (w .state .depth) ≡ false → (g : Given) → RowThere (w .state .depth) (topIpStored w g) (w .state .count)
   next-there below g =
       let full = eqb-false (w .state .count) (w .state .depth) below in
-      let within = good-state w .0 (top-passed w passed .0) .count-within in
+      let within = top-good w passed .count-within in
       (ap (λ k. tooFewWords k (w .state .depth)) (length-ipStored (w .state .depth) (w .words) (w .state .count) g) ∙ rows-enough, omega arith)
 
   -- ---- the newest frame's ip
@@ -192,15 +192,14 @@ module _ (B : ℕ → Row) (i s A : ℕ) where
   effect-stands w (HostPart frame) h c p d = h
 
 -- ---- the cells
-cell-either : (t : Bool) (a b : List ℕ) (k v : ℕ) → getD a k 0 ≡ v → getD b k 0 ≡ v → getD (choose t a b) k 0 ≡ v
-unfolding choose
-cell-either true a b k v p q = p
-cell-either false a b k v p q = q
+-- cell k is as in w
+abbrev Left : World → (k : ℕ) → List ℕ → Type 0
+Left w k cells = getD cells k 0 ≡ cellAt w k
 
 pub push-leaves : (w : World) (q : PushArgs) (k : ℕ) → k < topStart w + q .head → cellAt (pushed w q (pushRoom w q) .world) k ≡ cellAt w k
 unfolding pushRoom pushed
 push-leaves w q k h =
-    cell-either (eqb (q .slots) 0) (w .cells) _ k (cellAt w k) refl
+    chosen-holds (Left w k) (eqb (q .slots) 0) (w .cells) _ refl
     (push-kept (w .cells) _ _ (topStart w + q .head) (q .params) (q .locals) k (inl (omega arith)))
 
 pub effect-leaves : (w : World) (a : Asked) (k : ℕ) → k < topStart w → cellAt (effectOf w a .world) k ≡ cellAt w k
@@ -208,11 +207,11 @@ unfolding popped replaceRoom replaced hosted returnHostRoom returnedHost synced 
 effect-leaves w (Traced (Push q)) k h = push-leaves w q k (omega arith)
 effect-leaves w (Traced (Pop instance)) k h = refl
 effect-leaves w (Traced (Replace q)) k h =
-    cell-either (eqb (q .slots) 0) (w .cells) _ k (cellAt w k) refl
+    chosen-holds (Left w k) (eqb (q .slots) 0) (w .cells) _ refl
     (replace-kept (w .cells) _ _ (topStart w) (q .head) (q .params) (q .locals) k (inl h))
 effect-leaves w (Traced (Host q)) k h = host-kept (w .cells) _ _ k
 effect-leaves w (Traced (ReturnHost q)) k h =
-    cell-either (isSized (q .params) (q .results)) _ (w .cells) k (cellAt w k)
+    chosen-holds (Left w k) (isSized (q .params) (q .results)) _ (w .cells)
     (return-host-kept (w .cells) _ _ (topStart w) (q .head) (q .params) k (inl h))
     refl
 effect-leaves w (Traced (Sync ip)) k h = refl

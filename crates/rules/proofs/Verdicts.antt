@@ -9,14 +9,14 @@
 --     opening-verdict, opened-number     the law of openings: done with 0, or refused with 14
 --     exactly-14, refused-opening        when an opening is refused, and what it then hands back
 use mathlib.Core.Path.{_≡_, refl, sym, ap, subst, _∙_}
-use mathlib.Core.Bool.{Bool, true, false, true≢false}
+use mathlib.Core.Bool.{true, false, true≢false}
 use mathlib.Core.Logic.{_↔_, Iff·trans, _⊎_, inl, inr}
 use Prim.Native.Nat.{ℕ, _≤_, _<_, _/_}
 use native.Mathlib.Omega.{arith}
 use lib.Dec.{eqb, lit≤, lit<}
 use borrow.Author.Tests.{ltb-true, ltb-false}
-use Rattle.choice.specs.Choose.{choose}
 use Rattle.choice.specs.Tests.{Passed, FirstIs, here, there}
+use Rattle.choice.proofs.Choices.{chosen-holds}
 use Rattle.choice.proofs.Verdict.{Verdict, passes, fails, verdict, accepts, refuses, at-least-two, exactly}
 use Rattle.frames.specs.declared.row.Row.{Row}
 use Rattle.frames.specs.Rows.{tooFewWords}
@@ -27,10 +27,10 @@ use Rattle.rules.specs.declared.Request.the-variants.{Push, Pop, Replace
 use Rattle.rules.specs.declared.Asked.{Asked}
 use Rattle.rules.specs.declared.Asked.the-variants.{Traced, SyncRegs, HostPart}
 use Rattle.rules.specs.World.{World, topFrame, nextFrame}
-use Rattle.rules.specs.Answers.{shownOf, hostValues, noValues, After, refusedWith}
+use Rattle.rules.specs.Answers.{noValues, Shown, After, refusedWith}
 use Rattle.rules.specs.Broken.{brokenState, maxDepth, maxCells}
 use Rattle.rules.specs.Calls.{pushed, replaced}
-use Rattle.rules.specs.Returns.{callerValues, popped, returnedTo}
+use Rattle.rules.specs.Returns.{popped, returnedTo}
 use Rattle.rules.specs.Hosts.{hosted, returnedHost, partTests, partLent}
 use Rattle.rules.specs.Syncs.{synced, restored, emptied, cellSet, registersStored}
 use Rattle.rules.specs.Rules.{testsOf, effectOf, answered}
@@ -63,12 +63,8 @@ answered-either P w a done refusal = by (asked-verdict w a)
 
 -- a return shows 0, or 1 where the last frame is gone
 returned-below-two : (n : ℕ) (top next : Row) (instance : ℕ) (host : HostFrame) → returnedTo n top next instance host .number < 2
-unfolding returnedTo choose
-returned-below-two n top next instance host = by (eqb n 1)
-  where
-    by : (t : Bool) → choose t (shownOf 1 (hostValues 0 host)) (shownOf 0 (callerValues top next instance host)) .number < 2
-    by true = lit< tt
-    by false = lit< tt
+unfolding returnedTo
+returned-below-two n top next instance host = chosen-holds (λ (shown : Shown). shown .number < 2) (eqb n 1) _ _ (lit< tt) (lit< tt)
 
 -- what is done shows 0 or 1
 done-below-two : (w : World) (a : Asked) → effectOf w a .shown .number < 2

@@ -1,6 +1,7 @@
 -- A run of values stored from an index on: what stands in it, before it and behind it; one run after another; and a part that was lent and
 -- came back. Assumes nothing.
 use mathlib.Core.Path.{_≡_, refl, sym, ap, _∙_}
+use mathlib.Core.Logic.{_⊎_, inl, inr}
 use mathlib.Core.List.{List, [], _∷_, _++_, append-nil, append-assoc}
 use Prim.Native.Nat.{ℕ, zero, suc, _+_, _-_, _≤_, _<_, min}
 use native.Mathlib.Omega.{arith}
@@ -17,6 +18,10 @@ sets-before (v ∷ vs) l i k h = sets-before vs (set l i v) (suc i) k (omega ari
 pub sets-behind : (vs l : List ℕ) (i k : ℕ) → i + length vs ≤ k → getD (sets l i vs) k 0 ≡ getD l k 0
 sets-behind [] l i k h = refl
 sets-behind (v ∷ vs) l i k h = sets-behind vs (set l i v) (suc i) k (omega arith) ∙ getD-set-other l i k v 0 (omega arith)
+
+pub sets-outside : (vs l : List ℕ) (i k : ℕ) → (k < i) ⊎ (i + length vs ≤ k) → getD (sets l i vs) k 0 ≡ getD l k 0
+sets-outside vs l i k (inl h) = sets-before vs l i k h
+sets-outside vs l i k (inr h) = sets-behind vs l i k h
 
 pub sets-in : (vs l : List ℕ) (i k j : ℕ) → j ≡ i + k → k < length vs → j < length l → getD (sets l i vs) j 0 ≡ getD vs k 0
 sets-in [] l i k j e h f = absurd (omega arith)

@@ -1,0 +1,174 @@
+-- The table's rule: the code's rows say what the table's say. Proved once over the whole table, by tests that the checker computes at each row.
+-- Assumes nothing.
+use mathlib.Core.Path.{_≡_, refl, sym, ap, _∙_}
+use mathlib.Core.Bool.{Bool, true, false, not, _&&_, _||_}
+use mathlib.Core.List.{List, [], _∷_, map}
+use Prim.Native.Nat.{ℕ, zero, suc, _+_, _-_, _/_, _%_, _≤_, _<_}
+use native.Mathlib.Omega.{arith}
+use lib.Dec.{T, eqb, leb, leb→le}
+use lib.ListN.{length, getD, List·getD-eq-default}
+use borrow.Author.Tests.{ne-eqb}
+use Rattle.record.specs.declared.Record.{Record}
+use Rattle.record.specs.declared.table.KindRow.{KindRow}
+use Rattle.record.specs.Kinds.{Field, headField, paramsField, localsField, slotsField, resultsField, word1, word2, word3, everyField, TableRow, recordTable, noKind, rowOfKind, isAmong, hasField, callerIpGiven, instanceGiven, flagExists, lawfulIn, lawfulRecord}
+use Rattle.record.specs.Coded.{fieldBit, fieldSum, codedRow, lawfulCoded}
+
+-- ---- a test of every row holds at the row of any kind
+
+both : (a b : Bool) → T (a && b) → T a × T b
+both true b t = (tt, t)
+both false b t = absurd t
+
+module _ (test : TableRow → Bool) where
+  abbrev everyRow : List TableRow → Bool
+  everyRow [] = test noKind
+  everyRow (row ∷ rows) = test row && everyRow rows
+
+  at-row : (rows : List TableRow) → T (everyRow rows) → (i : ℕ) → T (test (getD rows i noKind))
+  at-row [] t i = t
+  at-row (row ∷ rows) t zero = both (test row) (everyRow rows) t .0
+  at-row (row ∷ rows) t (suc i) = at-row rows (both (test row) (everyRow rows) t .1) i
+
+  at-kind : T (test noKind) → T (everyRow recordTable) → (kind : ℕ) → T (test (rowOfKind kind))
+  at-kind n t zero = n
+  at-kind n t (suc i) = at-row recordTable t i
+
+-- ---- a kind or flags beyond the table
+
+kind-none : (kind : ℕ) → 9 < kind → rowOfKind kind ≡ noKind
+kind-none zero h = refl
+kind-none (suc i) h = let beyond : length recordTable ≤ i = omega arith in List·getD-eq-default recordTable noKind beyond
+
+module _ (r : Record) where
+  pub kind-zero : r .kind ≡ 0 → false ≡ lawfulRecord r
+  unfolding lawfulRecord
+  kind-zero e = rw e
+
+  pub kind-beyond : 9 < r .kind → false ≡ lawfulRecord r
+  unfolding lawfulRecord
+  kind-beyond h = rw (kind-none (r .kind) h)
+
+abbrev fewFlags : List ℕ → Bool
+fewFlags [] = true
+fewFlags (f ∷ fs) = leb f 3 && fewFlags fs
+
+not-among : (f : ℕ) (fs : List ℕ) → 3 < f → T (fewFlags fs) → isAmong f fs ≡ false
+not-among f [] h t = refl
+not-among f (g ∷ gs) h t =
+    let few = both (leb g 3) (fewFlags gs) t in
+    let small : g ≤ 3 = leb→le g 3 (few .0) in
+    let apart : f ≡ g → ⊥ = λ e. omega arith in
+    rw (ne-eqb f g apart) (not-among f gs h (few .1))
+
+pub flags-beyond : (r : Record) → 3 < r .flags → false ≡ lawfulRecord r
+unfolding lawfulRecord
+flags-beyond r h = rw (not-among (r .flags) _ h (at-kind (λ row. fewFlags (row .flags)) tt tt (r .kind)))
+
+-- ---- a row as the code has it
+
+coded-at : (rows : List TableRow) (d : KindRow) (i : ℕ) → i < length rows → getD (map codedRow rows) i d ≡ codedRow (getD rows i noKind)
+coded-at [] d i h = let none : ⊥ = omega arith in absurd none
+coded-at (row ∷ rows) d zero h = refl
+coded-at (row ∷ rows) d (suc i) h = coded-at rows d i (omega arith)
+
+alike : Bool → Bool → Bool
+alike true b = b
+alike false b = not b
+
+alike-same : (a b : Bool) → T (alike a b) → a ≡ b
+unfolding alike
+alike-same true true t = refl
+alike-same true false t = absurd t
+alike-same false true t = absurd t
+alike-same false false t = refl
+
+module _ (p : Field → Bool) (t : T (everyField p)) where
+  at-field : (field : Field) → T (p field)
+  at-field field =
+      let g = both (p headField && p paramsField && p localsField && p slotsField && p resultsField && p word1 && p word2) (p word3) t in
+      let f = both (p headField && p paramsField && p localsField && p slotsField && p resultsField && p word1) (p word2) (g .0) in
+      let e = both (p headField && p paramsField && p localsField && p slotsField && p resultsField) (p word1) (f .0) in
+      let d = both (p headField && p paramsField && p localsField && p slotsField) (p resultsField) (e .0) in
+      let c = both (p headField && p paramsField && p localsField) (p slotsField) (d .0) in
+      let b = both (p headField && p paramsField) (p localsField) (c .0) in
+      let a = both (p headField) (p paramsField) (b .0) in
+      by field (a .0) (a .1) (b .1) (c .1) (d .1) (e .1) (f .1) (g .1)
+    where
+      by : (field : Field) → T (p headField) → T (p paramsField) → T (p localsField) → T (p slotsField) → T (p resultsField) → T (p word1) → T (p word2) → T (p word3) → T (p field)
+      by headField a b c d e f g h = a
+      by paramsField a b c d e f g h = b
+      by localsField a b c d e f g h = c
+      by slotsField a b c d e f g h = d
+      by resultsField a b c d e f g h = e
+      by word1 a b c d e f g h = f
+      by word2 a b c d e f g h = g
+      by word3 a b c d e f g h = h
+
+-- the flags and the sum of a coded row, beside the lists of the table's
+abbrev sumSays : TableRow → Field → Bool
+sumSays row field = alike (eqb (fieldSum (row .used) / fieldBit field % 2) 1) (hasField (row .used) field)
+
+abbrev codedRight : TableRow → Bool
+codedRight row =
+    alike (isAmong 1 (row .flags) || isAmong 3 (row .flags)) (flagExists callerIpGiven (row .flags))
+    && alike (isAmong 2 (row .flags) || isAmong 3 (row .flags)) (flagExists instanceGiven (row .flags))
+    && everyField (sumSays row)
+
+-- of flags up to 3: whether they are allowed, and their two bits
+up-to-three : (P : ℕ → Type 0) → P 0 → P 1 → P 2 → P 3 → (f : ℕ) → f ≤ 3 → P f
+up-to-three P p q r s zero h = p
+up-to-three P p q r s (suc zero) h = q
+up-to-three P p q r s (suc (suc zero)) h = r
+up-to-three P p q r s (suc (suc (suc zero))) h = s
+up-to-three P p q r s (suc (suc (suc (suc f)))) h = let none : ⊥ = omega arith in absurd none
+
+among-coded : (row : TableRow) (f : ℕ) → f ≤ 3 → getD (codedRow row .flags) f false ≡ isAmong f (row .flags)
+among-coded row = up-to-three (λ f. getD (codedRow row .flags) f false ≡ isAmong f (row .flags)) refl refl refl refl
+
+ip-bit : (f : ℕ) → f ≤ 3 → eqb (f % 2) 0 ≡ not (callerIpGiven f)
+ip-bit = up-to-three (λ f. eqb (f % 2) 0 ≡ not (callerIpGiven f)) refl refl refl refl
+
+instance-bit : (f : ℕ) → f ≤ 3 → eqb (f / 2) 0 ≡ not (instanceGiven f)
+instance-bit = up-to-three (λ f. eqb (f / 2) 0 ≡ not (instanceGiven f)) refl refl refl refl
+
+-- one test before eight others
+before-eight : (t a b c d e f g h : Bool) → (t && a && b && c && d && e && f && g && h) ≡ (t && (a && b && c && d && e && f && g && h))
+before-eight true a b c d e f g h = refl
+before-eight false a b c d e f g h = refl
+
+lawful-coded : (row : TableRow) (r : Record) → T (codedRight row) → r .flags ≤ 3 → lawfulCoded (codedRow row) r ≡ lawfulIn row r
+lawful-coded row r t small =
+    let fs = row .flags in
+    let ip = alike (isAmong 1 fs || isAmong 3 fs) (flagExists callerIpGiven fs) in
+    let wakes = alike (isAmong 2 fs || isAmong 3 fs) (flagExists instanceGiven fs) in
+    let two = both (ip && wakes) (everyField (sumSays row)) t in
+    let one = both ip wakes (two .0) in
+    let noIp = alike-same (isAmong 1 fs || isAmong 3 fs) (flagExists callerIpGiven fs) (one .0) in
+    let noInstance = alike-same (isAmong 2 fs || isAmong 3 fs) (flagExists instanceGiven fs) (one .1) in
+    let uses : (field : Field) → eqb (fieldSum (row .used) / fieldBit field % 2) 1 ≡ hasField (row .used) field =
+    λ field. alike-same _ (hasField (row .used) field) (at-field (sumSays row) (two .1) field) in
+    (λ i. among-coded row (r .flags) small i
+    && (uses headField i || eqb (r .head) 0)
+    && (uses paramsField i || eqb (r .params) 0)
+    && (uses localsField i || eqb (r .locals) 0)
+    && (uses slotsField i || eqb (r .slots) 0)
+    && (uses resultsField i || eqb (r .results) 0)
+    && ((not (noIp i && ip-bit (r .flags) small i) && uses word1 i) || eqb (r .word1) 0)
+    && (uses word2 i || eqb (r .word2) 0)
+    && ((not (noInstance i && instance-bit (r .flags) small i) && uses word3 i) || eqb (r .word3) 0))
+    ∙ before-eight (isAmong (r .flags) fs) _ _ _ _ _ _ _ _
+
+-- the row that the code looks up, and what a record keeps there
+coded-kind : (kind : ℕ) (d : KindRow) → (kind ≡ 0 → ⊥) → kind ≤ 9 → getD (map codedRow recordTable) (kind - 1) d ≡ codedRow (rowOfKind kind)
+coded-kind zero d some few = absurd (some refl)
+coded-kind (suc i) d some few =
+    let h : i < length recordTable = omega arith in
+    let same : suc i - 1 ≡ i = omega arith in
+    rw same (coded-at recordTable d i h)
+
+pub kept-in-table : (r : Record) (d : KindRow) → (r .kind ≡ 0 → ⊥) → r .kind ≤ 9 → r .flags ≤ 3
+    → lawfulCoded (getD (map codedRow recordTable) (r .kind - 1) d) r ≡ lawfulRecord r
+unfolding alike lawfulRecord
+kept-in-table r d some few small =
+    ap (λ (row : KindRow). lawfulCoded row r) (coded-kind (r .kind) d some few)
+    ∙ lawful-coded (rowOfKind (r .kind)) r (at-kind codedRight tt tt (r .kind)) small

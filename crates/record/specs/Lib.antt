@@ -1,0 +1,5 @@
+pub mod Numbers
+pub mod Form
+pub mod Kinds
+pub mod Coded
+pub mod Reading

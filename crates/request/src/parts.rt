@@ -1,0 +1,98 @@
+// The request that a lawful record says.
+use given::Given;
+use record::Record;
+use rules::HostArgs;
+use rules::PushArgs;
+use rules::ReplaceArgs;
+use rules::Request;
+use rules::ReturnHostArgs;
+ghost use mathlib.Core.Path.{_≡_};
+ghost use Rattle.request.specs.Requests.{givenIf, callerIn, instanceIn, pushIn, replaceIn, hostIn, returnHostIn, requestIn};
+
+pub(crate) fn request_in(r: Record) -> Request
+    ensures { λ q. ⌜ q ≡ requestIn r ⌝ }
+{
+    let kind = r.kind;
+    match kind {
+        1 => Request::Push(push_in(r)),
+        2 => Request::Pop(r.word3),
+        3 => Request::Replace(replace_in(r)),
+        4 => Request::Host(host_in(r)),
+        5 => Request::ReturnHost(return_host_in(r)),
+        6 => Request::Sync(r.word1),
+        7 => Request::Restore,
+        8 => Request::Reset,
+        _ => Request::Set(r.head, r.word2),
+    }
+}
+
+fn push_in(r: Record) -> PushArgs
+    ensures { λ q. ⌜ q ≡ pushIn r ⌝ }
+{
+    PushArgs {
+        caller: caller_in(r),
+        callee: r.word2,
+        head: r.head,
+        params: r.params,
+        locals: r.locals,
+        slots: r.slots,
+        instance: instance_in(r),
+    }
+}
+
+fn replace_in(r: Record) -> ReplaceArgs
+    ensures { λ q. ⌜ q ≡ replaceIn r ⌝ }
+{
+    ReplaceArgs {
+        callee: r.word2,
+        head: r.head,
+        params: r.params,
+        locals: r.locals,
+        slots: r.slots,
+        instance: instance_in(r),
+    }
+}
+
+fn host_in(r: Record) -> HostArgs
+    ensures { λ q. ⌜ q ≡ hostIn r ⌝ }
+{
+    HostArgs {
+        caller: caller_in(r),
+        head: r.head,
+        params: r.params,
+        results: r.results,
+    }
+}
+
+fn return_host_in(r: Record) -> ReturnHostArgs
+    ensures { λ q. ⌜ q ≡ returnHostIn r ⌝ }
+{
+    ReturnHostArgs {
+        head: r.head,
+        params: r.params,
+        results: r.results,
+        instance: r.word3,
+    }
+}
+
+// The caller ip and the instance, where their flags are set.
+fn caller_in(r: Record) -> Given
+    ensures { λ g. ⌜ g ≡ callerIn r ⌝ }
+{
+    given_if(r.flags % 2 == 1, r.word1)
+}
+
+fn instance_in(r: Record) -> Given
+    ensures { λ g. ⌜ g ≡ instanceIn r ⌝ }
+{
+    given_if(r.flags / 2 % 2 == 1, r.word3)
+}
+
+fn given_if(set: bool, word: u64) -> Given
+    ensures { λ g. ⌜ g ≡ givenIf set word ⌝ }
+{
+    if set {
+        return Given::Value(word);
+    }
+    Given::Absent
+}

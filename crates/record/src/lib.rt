@@ -12,7 +12,7 @@ ghost use lib.ListN.{length};
 ghost use Rattle.record.specs.Reading.{readIn, readAt, shownRead, recordWritten, shownWrite};
 
 // How many bytes a record has, and where its four zero bytes begin.
-const RECORD_SIZE: usize = 40;
+pub const RECORD_SIZE: usize = 40;
 
 const SPARE: usize = 12;
 

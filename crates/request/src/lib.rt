@@ -1,8 +1,10 @@
 // Requests to and from trace records, and the decoder that walks a lent trace: at a place it hands out a request with the next place.
+mod kinds;
 mod parts;
 mod said;
 
 use parts::request_in;
+use record::RECORD_SIZE;
 use record::Read;
 use record::Record;
 use record::Written;
@@ -14,9 +16,6 @@ pub use said::record_of;
 ghost use mathlib.Core.Path.{_≡_};
 ghost use Rattle.record.specs.Reading.{shownWrite};
 ghost use Rattle.request.specs.Walk.{shownDecoded, decoded, shownNext, nextAt, nextPlace, requestWritten};
-
-// How many bytes a record has.
-const RECORD_SIZE: usize = 40;
 
 pub enum Decoded {
     Asks(Request),
@@ -34,10 +33,10 @@ pub enum Next {
 pub fn request_of(r: Record) -> Decoded
     ensures { λ d. ⌜ shownDecoded d ≡ decoded r ⌝ }
 {
-    if is_lawful(r) {
-        return Decoded::Asks(request_in(r));
+    if !is_lawful(r) {
+        return Decoded::Bad;
     }
-    Decoded::Bad
+    Decoded::Asks(request_in(r))
 }
 
 // Reads at a place of a trace. A bad record is as long as a good one; a short last one reaches to the end.

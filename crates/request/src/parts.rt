@@ -1,4 +1,12 @@
 // The request that a lawful record says.
+use crate::kinds::HOST;
+use crate::kinds::POP;
+use crate::kinds::PUSH;
+use crate::kinds::REPLACE;
+use crate::kinds::RESET;
+use crate::kinds::RESTORE;
+use crate::kinds::RETURN_HOST;
+use crate::kinds::SYNC;
 use given::Given;
 use record::Record;
 use rules::HostArgs;
@@ -14,14 +22,14 @@ pub(crate) fn request_in(r: Record) -> Request
 {
     let kind = r.kind;
     match kind {
-        1 => Request::Push(push_in(r)),
-        2 => Request::Pop(r.word3),
-        3 => Request::Replace(replace_in(r)),
-        4 => Request::Host(host_in(r)),
-        5 => Request::ReturnHost(return_host_in(r)),
-        6 => Request::Sync(r.word1),
-        7 => Request::Restore,
-        8 => Request::Reset,
+        PUSH => Request::Push(push_in(r)),
+        POP => Request::Pop(r.word3),
+        REPLACE => Request::Replace(replace_in(r)),
+        HOST => Request::Host(host_in(r)),
+        RETURN_HOST => Request::ReturnHost(return_host_in(r)),
+        SYNC => Request::Sync(r.word1),
+        RESTORE => Request::Restore,
+        RESET => Request::Reset,
         _ => Request::Set(r.head, r.word2),
     }
 }

@@ -1,4 +1,13 @@
 // The record that says a request.
+use crate::kinds::HOST;
+use crate::kinds::POP;
+use crate::kinds::PUSH;
+use crate::kinds::REPLACE;
+use crate::kinds::RESET;
+use crate::kinds::RESTORE;
+use crate::kinds::RETURN_HOST;
+use crate::kinds::SET;
+use crate::kinds::SYNC;
 use given::Given;
 use given::given_number;
 use record::Record;
@@ -27,8 +36,8 @@ pub fn record_of(q: Request) -> Record
         Request::Host(args) => host_record(args),
         Request::ReturnHost(args) => return_host_record(args),
         Request::Sync(ip) => sync_record(ip),
-        Request::Restore => bare_record(7),
-        Request::Reset => bare_record(8),
+        Request::Restore => bare_record(RESTORE),
+        Request::Reset => bare_record(RESET),
         Request::Set(head, cell) => set_record(head, cell),
     }
 }
@@ -39,7 +48,7 @@ fn push_record(q: PushArgs) -> Record
     let caller = q.caller;
     let instance = q.instance;
     Record {
-        kind: 1,
+        kind: PUSH,
         flags: flag(caller, IP_GIVEN) + flag(instance, INSTANCE_GIVEN),
         head: q.head,
         params: q.params,
@@ -56,7 +65,7 @@ fn pop_record(instance: u64) -> Record
     ensures { λ r. ⌜ r ≡ popRecord instance ⌝ }
 {
     Record {
-        kind: 2,
+        kind: POP,
         flags: INSTANCE_GIVEN,
         head: 0,
         params: 0,
@@ -74,7 +83,7 @@ fn replace_record(q: ReplaceArgs) -> Record
 {
     let instance = q.instance;
     Record {
-        kind: 3,
+        kind: REPLACE,
         flags: flag(instance, INSTANCE_GIVEN),
         head: q.head,
         params: q.params,
@@ -92,7 +101,7 @@ fn host_record(q: HostArgs) -> Record
 {
     let caller = q.caller;
     Record {
-        kind: 4,
+        kind: HOST,
         flags: flag(caller, IP_GIVEN),
         head: q.head,
         params: q.params,
@@ -109,7 +118,7 @@ fn return_host_record(q: ReturnHostArgs) -> Record
     ensures { λ r. ⌜ r ≡ returnHostRecord q ⌝ }
 {
     Record {
-        kind: 5,
+        kind: RETURN_HOST,
         flags: INSTANCE_GIVEN,
         head: q.head,
         params: q.params,
@@ -126,7 +135,7 @@ fn sync_record(ip: u64) -> Record
     ensures { λ r. ⌜ r ≡ syncRecord ip ⌝ }
 {
     Record {
-        kind: 6,
+        kind: SYNC,
         flags: 0,
         head: 0,
         params: 0,
@@ -161,7 +170,7 @@ fn set_record(head: u16, cell: u64) -> Record
     ensures { λ r. ⌜ r ≡ setRecord head cell ⌝ }
 {
     Record {
-        kind: 9,
+        kind: SET,
         flags: 0,
         head,
         params: 0,

@@ -3,7 +3,7 @@
 use mathlib.Core.Path.{_≡_, refl, sym, ap, _∙_}
 use mathlib.Core.Bool.{Bool, true, false, _&&_}
 use mathlib.Core.List.{List, [], _∷_}
-use mathlib.Core.Logic.{_↔_}
+use mathlib.Core.Logic.{_↔_, _⊎_, inl, inr}
 use Prim.Native.Nat.{ℕ, _≤_, _<_}
 use native.Mathlib.Omega.{arith}
 use lib.Dec.{T, leb, leb→le}
@@ -73,3 +73,16 @@ only-one = (first-true, here)
 
 pub only-number : {t : Bool} {m n : ℕ} → FirstIs ((t gives m) ∷ []) n → m ≡ n
 only-number (here e) = refl
+
+-- where the first test of a list gives n, n is given when it is true, and when the rest of the list gives n
+pub first-or-rest : (t : Bool) {n : ℕ} {ts : List Test} → FirstIs ((t gives n) ∷ ts) n ↔ ((t ≡ true) ⊎ FirstIs ts n)
+first-or-rest t {n} {ts} = (split, join t)
+  where
+    split : FirstIs ((t gives n) ∷ ts) n → (t ≡ true) ⊎ FirstIs ts n
+    split (here e) = inl e
+    split (there e p) = inr p
+
+    join : (t : Bool) → (t ≡ true) ⊎ FirstIs ts n → FirstIs ((t gives n) ∷ ts) n
+    join t (inl e) = here e
+    join true (inr p) = here refl
+    join false (inr p) = there refl p

@@ -1,37 +1,45 @@
 -- The table's rule: the code's rows say what the table's say. Proved once over the whole table, by tests that the checker computes at each row.
 -- Assumes nothing.
-use mathlib.Core.Path.{_≡_, refl, sym, ap, _∙_}
+use mathlib.Core.Path.{_≡_, refl, ap, _∙_, subst}
 use mathlib.Core.Bool.{Bool, true, false, not, _&&_, _||_}
 use mathlib.Core.List.{List, [], _∷_, map}
 use Prim.Native.Nat.{ℕ, zero, suc, _+_, _-_, _/_, _%_, _≤_, _<_}
 use native.Mathlib.Omega.{arith}
 use lib.Dec.{T, eqb, leb, leb→le}
+use lib.Ieee.Fits.{and-l, and-r}
 use lib.ListN.{length, getD, List·getD-eq-default}
 use borrow.Author.Tests.{ne-eqb}
 use Rattle.record.specs.declared.Record.{Record}
 use Rattle.record.specs.declared.table.KindRow.{KindRow}
-use Rattle.record.specs.Kinds.{Field, headField, paramsField, localsField, slotsField, resultsField, word1, word2, word3, everyField, TableRow, recordTable, noKind, rowOfKind, isAmong, hasField, callerIpGiven, instanceGiven, flagExists, lawfulIn, lawfulRecord}
+use Rattle.record.specs.Kinds.{Field, headField, paramsField, localsField, slotsField, resultsField, word1, word2, word3, allFields, eachHolds, fieldNumber, TableRow, recordTable, noKind, rowOfKind, isAmong, hasField, callerIpGiven, instanceGiven, flagExists, keepsField, lawfulIn, lawfulRecord}
 use Rattle.record.specs.Coded.{fieldBit, fieldSum, codedRow, lawfulCoded}
 
--- ---- a test of every row holds at the row of any kind
+-- ---- a test that holds at each entry of a list holds at the row of any kind, and at any field
 
-both : (a b : Bool) → T (a && b) → T a × T b
-both true b t = (tt, t)
-both false b t = absurd t
+module _ {A : Type 0} (test : A → Bool) (d : A) where
+  each-at : (xs : List A) → T (test d) → T (eachHolds test xs) → (i : ℕ) → T (test (getD xs i d))
+  each-at [] n t i = n
+  each-at (x ∷ xs) n t zero = and-l (test x) (eachHolds test xs) t
+  each-at (x ∷ xs) n t (suc i) = each-at xs n (and-r (test x) (eachHolds test xs) t) i
 
-module _ (test : TableRow → Bool) where
-  abbrev everyRow : List TableRow → Bool
-  everyRow [] = test noKind
-  everyRow (row ∷ rows) = test row && everyRow rows
+at-kind : (test : TableRow → Bool) → T (test noKind) → T (eachHolds test recordTable) → (kind : ℕ) → T (test (rowOfKind kind))
+at-kind test n t zero = n
+at-kind test n t (suc i) = each-at test noKind recordTable n t i
 
-  at-row : (rows : List TableRow) → T (everyRow rows) → (i : ℕ) → T (test (getD rows i noKind))
-  at-row [] t i = t
-  at-row (row ∷ rows) t zero = both (test row) (everyRow rows) t .0
-  at-row (row ∷ rows) t (suc i) = at-row rows (both (test row) (everyRow rows) t .1) i
+numbered-field : (field : Field) → getD allFields (fieldNumber field) headField ≡ field
+numbered-field headField = refl
+numbered-field paramsField = refl
+numbered-field localsField = refl
+numbered-field slotsField = refl
+numbered-field resultsField = refl
+numbered-field word1 = refl
+numbered-field word2 = refl
+numbered-field word3 = refl
 
-  at-kind : T (test noKind) → T (everyRow recordTable) → (kind : ℕ) → T (test (rowOfKind kind))
-  at-kind n t zero = n
-  at-kind n t (suc i) = at-row recordTable t i
+pub at-field : (test : Field → Bool) → T (eachHolds test allFields) → (field : Field) → T (test field)
+at-field test t field =
+    subst (λ (f : Field). T (test f)) (numbered-field field)
+    (each-at test headField allFields (and-l (test headField) _ t) t (fieldNumber field))
 
 -- ---- a kind or flags beyond the table
 
@@ -52,17 +60,16 @@ abbrev fewFlags : List ℕ → Bool
 fewFlags [] = true
 fewFlags (f ∷ fs) = leb f 3 && fewFlags fs
 
-not-among : (f : ℕ) (fs : List ℕ) → 3 < f → T (fewFlags fs) → isAmong f fs ≡ false
-not-among f [] h t = refl
-not-among f (g ∷ gs) h t =
-    let few = both (leb g 3) (fewFlags gs) t in
-    let small : g ≤ 3 = leb→le g 3 (few .0) in
+beyond-not-among : (f : ℕ) (fs : List ℕ) → 3 < f → T (fewFlags fs) → isAmong f fs ≡ false
+beyond-not-among f [] h t = refl
+beyond-not-among f (g ∷ gs) h t =
+    let small : g ≤ 3 = leb→le g 3 (and-l (leb g 3) (fewFlags gs) t) in
     let apart : f ≡ g → ⊥ = λ e. omega arith in
-    rw (ne-eqb f g apart) (not-among f gs h (few .1))
+    rw (ne-eqb f g apart) (beyond-not-among f gs h (and-r (leb g 3) (fewFlags gs) t))
 
 pub flags-beyond : (r : Record) → 3 < r .flags → false ≡ lawfulRecord r
 unfolding lawfulRecord
-flags-beyond r h = rw (not-among (r .flags) _ h (at-kind (λ row. fewFlags (row .flags)) tt tt (r .kind)))
+flags-beyond r h = rw (beyond-not-among (r .flags) _ h (at-kind (λ row. fewFlags (row .flags)) tt tt (r .kind)))
 
 -- ---- a row as the code has it
 
@@ -82,28 +89,6 @@ alike-same true false t = absurd t
 alike-same false true t = absurd t
 alike-same false false t = refl
 
-module _ (p : Field → Bool) (t : T (everyField p)) where
-  at-field : (field : Field) → T (p field)
-  at-field field =
-      let g = both (p headField && p paramsField && p localsField && p slotsField && p resultsField && p word1 && p word2) (p word3) t in
-      let f = both (p headField && p paramsField && p localsField && p slotsField && p resultsField && p word1) (p word2) (g .0) in
-      let e = both (p headField && p paramsField && p localsField && p slotsField && p resultsField) (p word1) (f .0) in
-      let d = both (p headField && p paramsField && p localsField && p slotsField) (p resultsField) (e .0) in
-      let c = both (p headField && p paramsField && p localsField) (p slotsField) (d .0) in
-      let b = both (p headField && p paramsField) (p localsField) (c .0) in
-      let a = both (p headField) (p paramsField) (b .0) in
-      by field (a .0) (a .1) (b .1) (c .1) (d .1) (e .1) (f .1) (g .1)
-    where
-      by : (field : Field) → T (p headField) → T (p paramsField) → T (p localsField) → T (p slotsField) → T (p resultsField) → T (p word1) → T (p word2) → T (p word3) → T (p field)
-      by headField a b c d e f g h = a
-      by paramsField a b c d e f g h = b
-      by localsField a b c d e f g h = c
-      by slotsField a b c d e f g h = d
-      by resultsField a b c d e f g h = e
-      by word1 a b c d e f g h = f
-      by word2 a b c d e f g h = g
-      by word3 a b c d e f g h = h
-
 -- the flags and the sum of a coded row, beside the lists of the table's
 abbrev sumSays : TableRow → Field → Bool
 sumSays row field = alike (eqb (fieldSum (row .used) / fieldBit field % 2) 1) (hasField (row .used) field)
@@ -112,7 +97,7 @@ abbrev codedRight : TableRow → Bool
 codedRight row =
     alike (isAmong 1 (row .flags) || isAmong 3 (row .flags)) (flagExists callerIpGiven (row .flags))
     && alike (isAmong 2 (row .flags) || isAmong 3 (row .flags)) (flagExists instanceGiven (row .flags))
-    && everyField (sumSays row)
+    && eachHolds (sumSays row) allFields
 
 -- of flags up to 3: whether they are allowed, and their two bits
 up-to-three : (P : ℕ → Type 0) → P 0 → P 1 → P 2 → P 3 → (f : ℕ) → f ≤ 3 → P f
@@ -131,22 +116,30 @@ ip-bit = up-to-three (λ f. eqb (f % 2) 0 ≡ not (callerIpGiven f)) refl refl r
 instance-bit : (f : ℕ) → f ≤ 3 → eqb (f / 2) 0 ≡ not (instanceGiven f)
 instance-bit = up-to-three (λ f. eqb (f / 2) 0 ≡ not (instanceGiven f)) refl refl refl refl
 
--- one test before eight others
-before-eight : (t a b c d e f g h : Bool) → (t && a && b && c && d && e && f && g && h) ≡ (t && (a && b && c && d && e && f && g && h))
-before-eight true a b c d e f g h = refl
-before-eight false a b c d e f g h = refl
+-- tests made one after another, and in a list
+in-a-row : (t a b c d e f g h : Bool)
+    → (t && a && b && c && d && e && f && g && h) ≡ (t && (a && (b && (c && (d && (e && (f && (g && (h && true)))))))))
+in-a-row false a b c d e f g h = refl
+in-a-row true false b c d e f g h = refl
+in-a-row true true false c d e f g h = refl
+in-a-row true true true false d e f g h = refl
+in-a-row true true true true false e f g h = refl
+in-a-row true true true true true false f g h = refl
+in-a-row true true true true true true false g h = refl
+in-a-row true true true true true true true false h = refl
+in-a-row true true true true true true true true false = refl
+in-a-row true true true true true true true true true = refl
 
 lawful-coded : (row : TableRow) (r : Record) → T (codedRight row) → r .flags ≤ 3 → lawfulCoded (codedRow row) r ≡ lawfulIn row r
 lawful-coded row r t small =
     let fs = row .flags in
     let ip = alike (isAmong 1 fs || isAmong 3 fs) (flagExists callerIpGiven fs) in
     let wakes = alike (isAmong 2 fs || isAmong 3 fs) (flagExists instanceGiven fs) in
-    let two = both (ip && wakes) (everyField (sumSays row)) t in
-    let one = both ip wakes (two .0) in
-    let noIp = alike-same (isAmong 1 fs || isAmong 3 fs) (flagExists callerIpGiven fs) (one .0) in
-    let noInstance = alike-same (isAmong 2 fs || isAmong 3 fs) (flagExists instanceGiven fs) (one .1) in
+    let bits = and-l (ip && wakes) (eachHolds (sumSays row) allFields) t in
+    let noIp = alike-same (isAmong 1 fs || isAmong 3 fs) (flagExists callerIpGiven fs) (and-l ip wakes bits) in
+    let noInstance = alike-same (isAmong 2 fs || isAmong 3 fs) (flagExists instanceGiven fs) (and-r ip wakes bits) in
     let uses : (field : Field) → eqb (fieldSum (row .used) / fieldBit field % 2) 1 ≡ hasField (row .used) field =
-    λ field. alike-same _ (hasField (row .used) field) (at-field (sumSays row) (two .1) field) in
+    λ field. alike-same _ (hasField (row .used) field) (at-field (sumSays row) (and-r (ip && wakes) (eachHolds (sumSays row) allFields) t) field) in
     (λ i. among-coded row (r .flags) small i
     && (uses headField i || eqb (r .head) 0)
     && (uses paramsField i || eqb (r .params) 0)
@@ -156,7 +149,8 @@ lawful-coded row r t small =
     && ((not (noIp i && ip-bit (r .flags) small i) && uses word1 i) || eqb (r .word1) 0)
     && (uses word2 i || eqb (r .word2) 0)
     && ((not (noInstance i && instance-bit (r .flags) small i) && uses word3 i) || eqb (r .word3) 0))
-    ∙ before-eight (isAmong (r .flags) fs) _ _ _ _ _ _ _ _
+    ∙ in-a-row (isAmong (r .flags) fs) (keepsField row r headField) (keepsField row r paramsField) (keepsField row r localsField) (keepsField row r slotsField)
+    (keepsField row r resultsField) (keepsField row r word1) (keepsField row r word2) (keepsField row r word3)
 
 -- the row that the code looks up, and what a record keeps there
 coded-kind : (kind : ℕ) (d : KindRow) → (kind ≡ 0 → ⊥) → kind ≤ 9 → getD (map codedRow recordTable) (kind - 1) d ≡ codedRow (rowOfKind kind)

@@ -25,6 +25,10 @@ module _ (bytes : List ℕ) (at : ℕ) where
           let more = at-least-two p tt in
           absurd (omega arith)
 
+  pub passes-found : Passed (readTests bytes at) → readAt bytes at ≡ readNumber 0 (recordAt bytes at)
+  unfolding readTests readAt
+  passes-found p = accepts readRefused (readNumber 0 (recordAt bytes at)) (readTests bytes at) p
+
   pub bad-fails : readRefused 10 ≡ readAt bytes at → FirstIs (readTests bytes at) 10
   unfolding readTests readAt
   bad-fails e =

@@ -33,9 +33,12 @@ fieldOf r word1 = r .word1
 fieldOf r word2 = r .word2
 fieldOf r word3 = r .word3
 
-abbrev pub everyField : (Field → Bool) → Bool
-everyField p =
-    p headField && p paramsField && p localsField && p slotsField && p resultsField && p word1 && p word2 && p word3
+abbrev pub allFields : List Field
+allFields = headField ∷ paramsField ∷ localsField ∷ slotsField ∷ resultsField ∷ word1 ∷ word2 ∷ word3 ∷ []
+
+abbrev pub eachHolds : {A : Type 0} → (A → Bool) → List A → Bool
+eachHolds test [] = true
+eachHolds test (x ∷ xs) = test x && eachHolds test xs
 
 -- ---- the table
 
@@ -116,8 +119,12 @@ flagClear row f word3 = flagExists instanceGiven (row .flags) && not (instanceGi
 abbrev pub mayHold : TableRow → (flags : ℕ) → Field → Bool
 mayHold row f field = not (flagClear row f field) && hasField (row .used) field
 
+-- the field is 0, if it has to be
+abbrev pub keepsField : TableRow → Record → Field → Bool
+keepsField row r field = mayHold row (r .flags) field || eqb (fieldOf r field) 0
+
 abbrev pub lawfulIn : TableRow → Record → Bool
-lawfulIn row r = isAmong (r .flags) (row .flags) && everyField (λ field. mayHold row (r .flags) field || eqb (fieldOf r field) 0)
+lawfulIn row r = isAmong (r .flags) (row .flags) && eachHolds (keepsField row r) allFields
 
 unfoldable pub lawfulRecord : Record → Bool
 lawfulRecord r = lawfulIn (rowOfKind (r .kind)) r

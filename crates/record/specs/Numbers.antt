@@ -3,7 +3,7 @@
 --     numberBytes n v            the n lowest bytes of v
 --     numbersIn ns i bytes       one number after another from place i on, with the widths ns
 --     bytesOfAll ns vs           the bytes of one number after another
---     FitsIn n v, FitAll ns vs   v can be spelt with n bytes; each number with its width
+--     FitsIn n v, FitAll ns vs   v can be spelt with n bytes; as many numbers as widths, each with its own
 --     AllBytes bytes             each of them is a byte
 use mathlib.Core.List.{List, [], _∷_, _++_}
 use Prim.Native.Nat.{ℕ, zero, suc, _+_, _*_, _/_, _%_, _^_, _<_}
@@ -43,7 +43,8 @@ abbrev pub FitsIn : (n v : ℕ) → Type 0
 FitsIn n v = v < 256 ^ n
 
 abbrev pub FitAll : (ns vs : List ℕ) → Type 0
-FitAll [] vs = Unit {0}
+FitAll [] [] = Unit {0}
+FitAll [] (v ∷ vs) = ⊥
 FitAll (n ∷ ns) [] = ⊥
 FitAll (n ∷ ns) (v ∷ vs) = FitsIn n v × FitAll ns vs
 

@@ -29,6 +29,10 @@ module _ (bytes : List ℕ) (at : ℕ) where
   unfolding readTests readAt
   passes-found p = accepts readRefused (readNumber 0 (recordAt bytes at)) (readTests bytes at) p
 
+  pub fails-bad : {n : ℕ} → FirstIs (readTests bytes at) n → readAt bytes at ≡ readRefused n
+  unfolding readTests readAt
+  fails-bad p = refuses readRefused (readNumber 0 (recordAt bytes at)) p
+
   pub bad-fails : readRefused 10 ≡ readAt bytes at → FirstIs (readTests bytes at) 10
   unfolding readTests readAt
   bad-fails e =

@@ -1,23 +1,22 @@
 -- 10 is given exactly when document 01 says so, and a refused write changes no byte: of any answer that the functions' promises allow.
 -- Assumes nothing.
-use mathlib.Core.Path.{_≡_, refl, sym, ap, _∙_}
+use mathlib.Core.Path.{_≡_, refl, ap, _∙_}
 use mathlib.Core.Bool.{true, false, not}
-use mathlib.Core.Logic.{_↔_, _⊎_, inl, inr, Iff·trans, ⊎-map}
-use mathlib.Core.List.{List, [], _∷_}
+use mathlib.Core.Logic.{_↔_, _⊎_, Iff·trans, ⊎-map}
+use mathlib.Core.List.{[], _∷_}
 use Prim.Native.Nat.{ℕ, _+_, _<_}
 use lib.Dec.{ltb, lit≤, lit<}
 use lib.ListN.{length}
 use borrow.Author.Tests.{lt-ltb, ltb-true, not-true}
-use lib.Seq.{sets}
 use denote.Ref.{now}
 use Rattle.choice.specs.Tests.{_gives_, FirstIs}
 use Rattle.choice.proofs.Verdict.{refuses, exactly, only-one, first-or-rest}
 use Rattle.record.specs.declared.Record.{Record}
 use Rattle.record.specs.declared.Read.{Read}
 use Rattle.record.specs.declared.Written.{Written}
-use Rattle.record.specs.Form.{recordSize, recordBytes, spareIn}
+use Rattle.record.specs.Form.{recordSize, spareIn}
 use Rattle.record.specs.Kinds.{lawfulRecord}
-use Rattle.record.specs.Reading.{tooShort, partAt, recordAt, ShownRead, readNumber, readRefused, shownRead, readTests, readAt, ShownWrite, writeNumber, writtenNumber, shownWrite, writeTests, recordWritten}
+use Rattle.record.specs.Reading.{tooShort, partAt, recordAt, ShownRead, readNumber, readRefused, shownRead, readTests, readAt, ShownWrite, writeRefused, writeDone, writtenNumber, shownWrite, writeTests, recordWritten}
 use Rattle.record.proofs.read_record.Reads as read-record
 use Rattle.record.proofs.write_record.Reads as write-record
 
@@ -59,8 +58,7 @@ write-exactly-10 κ a w e p =
     let bytes = now (a .0) in
     let at = a .1 .0 in
     let r = a .1 .1 .0 in
-    let done = writeNumber 0 (sets bytes at (recordBytes r)) in
-    Iff·trans (exactly numberWritten (λ n. writeNumber n bytes) done (λ n. refl) (lit< tt) (writeTests bytes at r) (shownWrite w (now (e .0))) p 10 (lit≤ tt))
+    Iff·trans (exactly numberWritten (writeRefused bytes) (writeDone bytes at r) (λ n. refl) (lit< tt) (writeTests bytes at r) (shownWrite w (now (e .0))) p 10 (lit≤ tt))
     (Iff·trans (first-or-rest (tooShort bytes at)) (in-words (less-than (length bytes) (at + recordSize)) (unlawful r)))
 
 pub refused-write-keeps : (κ : _) (a : _) (w : Written) (e : _) → write-record.Post κ a w e → writtenNumber w ≡ 10 → now (e .0) ≡ now (a .0)
@@ -69,6 +67,5 @@ refused-write-keeps κ a w e p n =
     let bytes = now (a .0) in
     let at = a .1 .0 in
     let r = a .1 .1 .0 in
-    let done = writeNumber 0 (sets bytes at (recordBytes r)) in
-    let first = exactly numberWritten (λ n. writeNumber n bytes) done (λ n. refl) (lit< tt) (writeTests bytes at r) (shownWrite w (now (e .0))) p 10 (lit≤ tt) .0 n in
-    ap (λ (s : ShownWrite). s .bytes) (p ∙ refuses (λ n. writeNumber n bytes) done first)
+    let first = exactly numberWritten (writeRefused bytes) (writeDone bytes at r) (λ n. refl) (lit< tt) (writeTests bytes at r) (shownWrite w (now (e .0))) p 10 (lit≤ tt) .0 n in
+    ap (λ (s : ShownWrite). s .bytes) (p ∙ refuses (writeRefused bytes) (writeDone bytes at r) first)

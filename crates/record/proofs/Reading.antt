@@ -1,6 +1,6 @@
 -- What an answer of the reader tells of its list of refusals: where a record was found no test is true, and it is the one that stands there;
 -- where it is refused, the first true test gives 10. Assumes nothing.
-use mathlib.Core.Path.{_≡_, refl, sym, ap, _∙_}
+use mathlib.Core.Path.{_≡_, refl, ap, _∙_}
 use mathlib.Core.List.{List}
 use Prim.Native.Nat.{ℕ}
 use native.Mathlib.Omega.{arith}

@@ -1,25 +1,22 @@
 -- Written and read, read and written: the three statements of specs/Trips.antt. Assumes nothing.
-use mathlib.Core.Path.{_≡_, refl, sym, ap, _∙_}
-use mathlib.Core.Bool.{true, false, not}
+use mathlib.Core.Path.{_≡_, sym, ap, _∙_}
+use mathlib.Core.Bool.{not}
 use mathlib.Core.Logic.{_⊎_}
 use mathlib.Core.List.{List, [], _∷_}
 use Prim.Native.Nat.{ℕ, zero, suc, _+_, _<_, _≤_}
 use native.Mathlib.Omega.{arith}
-use native.Mathlib.Decide.{decLt}
-use lib.Dec.{ltb, lit<, lit≤}
+use lib.Dec.{ltb, lit<}
 use lib.ListN.{length, getD, take, drop}
-use lib.Seq.{sets, length-sets, getD-take, getD-drop, take-all}
-use borrow.Author.Tests.{le-ltb, ltb-false, not-false}
-use Rattle.choice.specs.Choose.{choose}
+use lib.Seq.{sets, length-sets, getD-drop, take-all}
+use borrow.Author.Tests.{ltb-false}
 use Rattle.choice.specs.Tests.{Passed}
-use Rattle.choice.proofs.Choices.{chosen-holds}
 use Rattle.choice.proofs.Verdict.{accepts, refuses, Verdict, passes, fails, verdict, at-least-two}
 use Rattle.runs.proofs.Lists.{sets-there, sets-same, sets-outside, length-within}
 use Rattle.record.specs.declared.Record.{Record}
 use Rattle.record.specs.Numbers.{numbersIn, bytesOfAll, AllBytes}
 use Rattle.record.specs.Form.{recordWidths, recordSize, recordNumbers, recordOfNumbers, recordBytes, recordIn, spareIn, FieldsFit}
 use Rattle.record.specs.Kinds.{lawfulRecord}
-use Rattle.record.specs.Reading.{tooShort, partAt, recordAt, readRefused, readNumber, readTests, readAt, ShownWrite, writeNumber, writeTests, recordWritten}
+use Rattle.record.specs.Reading.{partAt, recordAt, readNumber, readTests, readAt, ShownWrite, writeNumber, writeRefused, writeDone, writeTests, recordWritten}
 use Rattle.record.specs.Trips.{WrittenReadsBack, ReadWritesBack, WritesNowhereElse}
 use Rattle.record.proofs.Spelling.{numbers-spelt, all-bytes-spelt}
 use Rattle.record.proofs.Reading.{found-passes, passes-found}
@@ -53,13 +50,13 @@ module _ (bytes : List ℕ) (at : ℕ) (r : Record) where
       by : Verdict (writeTests bytes at r) → Passed (writeTests bytes at r)
       by (passes p) = p
       by (fails n p) =
-          let same : n ≡ 0 = sym (ap (λ (s : ShownWrite). s .number) (refuses (λ n. writeNumber n bytes) (writeNumber 0 (sets bytes at (recordBytes r))) p)) ∙ e in
+          let same : n ≡ 0 = sym (ap (λ (s : ShownWrite). s .number) (refuses (writeRefused bytes) (writeDone bytes at r) p)) ∙ e in
           let more = at-least-two p tt in
           absurd (omega arith)
 
-  pub passes-written : Passed (writeTests bytes at r) → recordWritten bytes at r ≡ writeNumber 0 (sets bytes at (recordBytes r))
+  pub passes-written : Passed (writeTests bytes at r) → recordWritten bytes at r ≡ writeDone bytes at r
   unfolding writeTests recordWritten
-  passes-written p = accepts (λ n. writeNumber n bytes) (writeNumber 0 (sets bytes at (recordBytes r))) (writeTests bytes at r) p
+  passes-written p = accepts (writeRefused bytes) (writeDone bytes at r) (writeTests bytes at r) p
 
   module _ (fits : FieldsFit r) (p : Passed (writeTests bytes at r)) where
     part-back : partAt (sets bytes at (recordBytes r)) at ≡ recordBytes r
@@ -118,5 +115,5 @@ writes-nowhere-else bytes at r = by (verdict (writeTests bytes at r))
           λ k h. ap (λ (s : ShownWrite). getD (s .bytes) k 0) same ∙ sets-outside (recordBytes r) bytes at k h,
         )
     by (fails n p) =
-        let same = refuses (λ n. writeNumber n bytes) (writeNumber 0 (sets bytes at (recordBytes r))) p in
+        let same = refuses (writeRefused bytes) (writeDone bytes at r) p in
         (ap (λ (s : ShownWrite). length (s .bytes)) same, λ k h. ap (λ (s : ShownWrite). getD (s .bytes) k 0) same)

@@ -70,6 +70,12 @@ pub record ShownWrite : Type 0 where
 abbrev pub writeNumber : (number : ℕ) → List ℕ → ShownWrite
 writeNumber number bytes = record { number = number; bytes = bytes }
 
+abbrev pub writeRefused : List ℕ → (number : ℕ) → ShownWrite
+writeRefused bytes number = writeNumber number bytes
+
+abbrev pub writeDone : List ℕ → (at : ℕ) → Record → ShownWrite
+writeDone bytes at r = writeNumber 0 (sets bytes at (recordBytes r))
+
 abbrev pub writtenNumber : Written → ℕ
 writtenNumber Done = 0
 writtenNumber NotWritten = 10
@@ -82,4 +88,4 @@ writeTests bytes at r = tooShort bytes at gives 10 ∷ not (lawfulRecord r) give
 
 unfoldable pub recordWritten : List ℕ → (at : ℕ) → Record → ShownWrite
 unfolding writeTests
-recordWritten bytes at r = settle (writeTests bytes at r) (λ n. writeNumber n bytes) (writeNumber 0 (sets bytes at (recordBytes r)))
+recordWritten bytes at r = settle (writeTests bytes at r) (writeRefused bytes) (writeDone bytes at r)

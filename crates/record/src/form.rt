@@ -3,7 +3,8 @@ use crate::Record;
 ghost use mathlib.Core.Path.{_≡_};
 ghost use Prim.Native.Nat.{_+_, _*_, _≤_};
 ghost use lib.ListN.{length};
-ghost use Rattle.record.specs.Numbers.{twoAt, fourAt, eightAt, numberBytes};
+ghost use Rattle.record.specs.Coded.{twoAt, fourAt, eightAt};
+ghost use Rattle.record.specs.Numbers.{numberBytes};
 ghost use lib.Seq.{sets};
 ghost use Rattle.record.specs.Form.{recordIn, recordBytes};
 

@@ -28,9 +28,9 @@ pub struct KindRow {
     pub used: u8,
 }
 
+// How many kinds there are, and the largest value of the flags: both given.
 const KINDS: u8 = 9;
 
-// The largest value of the flags.
 const BOTH_GIVEN: u8 = 3;
 
 const TABLE: [KindRow; 9] = [

@@ -8,16 +8,14 @@ use native.Mathlib.Omega.{arith}
 use native.Mathlib.Decide.{decLt}
 use lib.Dec.{lit≤, lit<}
 use lib.ListN.{length}
-use lib.Seq.{sets}
 use borrow.Author.Tests.{not-true, lt-ltb}
 use denote.Ref.{now}
 use Rattle.choice.specs.Tests.{FirstIs, here}
 use Rattle.choice.proofs.Verdict.{refuses, Verdict, passes, fails, verdict, exactly, only-one}
-use Rattle.record.specs.declared.Record.{Record}
 use Rattle.record.specs.declared.Written.{Written}
-use Rattle.record.specs.Form.{recordSize, recordBytes}
+use Rattle.record.specs.Form.{recordSize}
 use Rattle.record.specs.Kinds.{lawfulRecord}
-use Rattle.record.specs.Reading.{ShownRead, readTests, readAt, ShownWrite, writtenNumber, writeNumber, writeTests, recordWritten}
+use Rattle.record.specs.Reading.{ShownRead, readTests, readAt, ShownWrite, writtenNumber, writeRefused, writeDone, writeTests, recordWritten}
 use Rattle.record.proofs.Reading.{passes-found, fails-bad}
 use Rattle.rules.specs.declared.Request.{Request}
 use Rattle.request.specs.declared.Decoded.{Decoded}
@@ -102,7 +100,7 @@ module _ (bytes : List ℕ) (at : ℕ) (q : Request) where
       to : length bytes < at + recordSize → requestWritten bytes at q .number ≡ 10
       to h =
           let first : FirstIs (writeTests bytes at (recordFor q)) 10 = here (lt-ltb (length bytes) (at + recordSize) h) in
-          ap (λ (s : ShownWrite). s .number) (refuses (λ n. writeNumber n bytes) (writeNumber 0 (sets bytes at (recordBytes (recordFor q)))) first)
+          ap (λ (s : ShownWrite). s .number) (refuses (writeRefused bytes) (writeDone bytes at (recordFor q)) first)
 
 -- a request's record always keeps the rules, so that room is all that is asked
 pub write-request-exactly-10 : (κ : _) (a : _) (w : Written) (e : _) → write-request.Post κ a w e

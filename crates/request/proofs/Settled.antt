@@ -14,7 +14,7 @@ use Rattle.request.specs.declared.Decoded.{Decoded}
 use Rattle.request.specs.declared.Decoded.the-variants.{Asks, Bad}
 use Rattle.request.specs.declared.Next.{Next}
 use Rattle.request.specs.declared.Next.the-variants.{Asks as AsksNext, Bad as BadNext, End}
-use Rattle.request.specs.Walk.{ShownDecoded, shownDecoded, ShownNext, shownNext}
+use Rattle.request.specs.Walk.{shownDecoded, shownNext}
 use Rattle.request.proofs.said.record_of.Reads as record-of
 use Rattle.request.proofs.request_of.Reads as request-of
 use Rattle.request.proofs.next_request.Reads as next-request

@@ -1,27 +1,25 @@
 -- From bytes to request and back: `RequestReadsBack` and `BytesWriteBack`, and the same of any answers that the functions' promises allow.
 -- Assumes nothing.
-use mathlib.Core.Path.{_≡_, refl, sym, ap, _∙_}
-use mathlib.Core.Bool.{Bool, true, false, not}
-use mathlib.Core.List.{List, []}
+use mathlib.Core.Path.{_≡_, sym, ap, _∙_}
+use mathlib.Core.Bool.{not}
+use mathlib.Core.List.{List}
 use Prim.Native.Nat.{ℕ, _+_, _≤_, _<_}
 use native.Mathlib.Omega.{arith}
 use native.Mathlib.Decide.{decLt}
 use lib.ListN.{length, getD}
 use borrow.Author.Tests.{le-ltb, ltb-false, not-false}
 use denote.Ref.{now}
-use Rattle.choice.specs.Tests.{Passed, settle}
-use Rattle.choice.proofs.Verdict.{accepts, refuses, Verdict, passes, fails, verdict}
-use Rattle.record.specs.declared.Record.{Record}
+use Rattle.choice.specs.Tests.{Passed}
+use Rattle.choice.proofs.Verdict.{Verdict, passes, fails, verdict}
 use Rattle.record.specs.declared.Written.{Written}
-use Rattle.record.specs.Form.{recordSize, recordBytes}
-use Rattle.record.specs.Kinds.{lawfulRecord}
-use Rattle.record.specs.Reading.{recordAt, readNumber, readTests, readAt, ShownWrite, writtenNumber, writeNumber, writeTests, recordWritten}
+use Rattle.record.specs.Form.{recordSize}
+use Rattle.record.specs.Reading.{recordAt, readTests, ShownWrite, writtenNumber, writeTests, recordWritten}
 use Rattle.record.proofs.Reading.{passes-found}
 use Rattle.record.proofs.Trips.{written-passes, passes-written, written-reads-back, read-writes-back, writes-nowhere-else}
 use Rattle.rules.specs.declared.Request.{Request}
 use Rattle.rules.specs.declared.Request.the-variants.{Restore}
 use Rattle.request.specs.Requests.{recordFor, requestIn}
-use Rattle.request.specs.Walk.{nextPlace, ShownNext, nextRefused, nextAsks, nextNone, nextAt, requestWritten}
+use Rattle.request.specs.Walk.{nextPlace, ShownNext, nextAsks, nextAt, requestWritten}
 use Rattle.request.specs.declared.Next.{Next}
 use Rattle.request.specs.declared.Next.the-variants.{Asks}
 use Rattle.request.specs.Trips.{RequestFits, RequestReadsBack, BytesWriteBack}

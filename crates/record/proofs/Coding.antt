@@ -12,7 +12,7 @@ use borrow.Author.Tests.{ne-eqb}
 use Rattle.record.specs.declared.Record.{Record}
 use Rattle.record.specs.declared.table.KindRow.{KindRow}
 use Rattle.record.specs.Kinds.{Field, headField, paramsField, localsField, slotsField, resultsField, word1, word2, word3, allFields, eachHolds, fieldNumber, TableRow, recordTable, noKind, rowOfKind, isAmong, hasField, callerIpGiven, instanceGiven, flagExists, keepsField, lawfulIn, lawfulRecord}
-use Rattle.record.specs.Coded.{fieldBit, fieldSum, codedRow, lawfulCoded}
+use Rattle.record.specs.Coded.{fieldBit, codedRow, allowsCoded, usesCoded, lawfulCoded}
 
 -- ---- a test that holds at each entry of a list holds at the row of any kind, and at any field
 
@@ -78,28 +78,47 @@ coded-at [] d i h = let none : ⊥ = omega arith in absurd none
 coded-at (row ∷ rows) d zero h = refl
 coded-at (row ∷ rows) d (suc i) h = coded-at rows d i (omega arith)
 
-alike : Bool → Bool → Bool
+abbrev alike : Bool → Bool → Bool
 alike true b = b
 alike false b = not b
 
 alike-same : (a b : Bool) → T (alike a b) → a ≡ b
-unfolding alike
 alike-same true true t = refl
 alike-same true false t = absurd t
 alike-same false true t = absurd t
 alike-same false false t = refl
 
--- the flags and the sum of a coded row, beside the lists of the table's
-abbrev sumSays : TableRow → Field → Bool
-sumSays row field = alike (eqb (fieldSum (row .used) / fieldBit field % 2) 1) (hasField (row .used) field)
+-- the sums of a coded row, beside the lists of the table's
+abbrev flagsSay : TableRow → (flags : ℕ) → Bool
+flagsSay row f = alike (allowsCoded (codedRow row) f) (isAmong f (row .flags))
 
-abbrev codedRight : TableRow → Bool
-codedRight row =
-    alike (isAmong 1 (row .flags) || isAmong 3 (row .flags)) (flagExists callerIpGiven (row .flags))
-    && alike (isAmong 2 (row .flags) || isAmong 3 (row .flags)) (flagExists instanceGiven (row .flags))
-    && eachHolds (sumSays row) allFields
+abbrev ipSays : TableRow → Bool
+ipSays row = alike (allowsCoded (codedRow row) 1 || allowsCoded (codedRow row) 3) (flagExists callerIpGiven (row .flags))
 
--- of flags up to 3: whether they are allowed, and their two bits
+abbrev instanceSays : TableRow → Bool
+instanceSays row = alike (allowsCoded (codedRow row) 2 || allowsCoded (codedRow row) 3) (flagExists instanceGiven (row .flags))
+
+abbrev fieldsSay : TableRow → Field → Bool
+fieldsSay row field = alike (usesCoded (codedRow row) (fieldBit field)) (hasField (row .used) field)
+
+abbrev flagValues : List ℕ
+flagValues = 0 ∷ 1 ∷ 2 ∷ 3 ∷ []
+
+record CodedRight (row : TableRow) : Type 0 where
+  pub flags : T (eachHolds (flagsSay row) flagValues)
+  pub ip : T (ipSays row)
+  pub instance : T (instanceSays row)
+  pub used : T (eachHolds (fieldsSay row) allFields)
+
+coded-right : (kind : ℕ) → CodedRight (rowOfKind kind)
+coded-right kind = record {
+  flags = at-kind (λ row. eachHolds (flagsSay row) flagValues) tt tt kind;
+  ip = at-kind ipSays tt tt kind;
+  instance = at-kind instanceSays tt tt kind;
+  used = at-kind (λ row. eachHolds (fieldsSay row) allFields) tt tt kind;
+}
+
+-- of flags up to 3: their two bits
 up-to-three : (P : ℕ → Type 0) → P 0 → P 1 → P 2 → P 3 → (f : ℕ) → f ≤ 3 → P f
 up-to-three P p q r s zero h = p
 up-to-three P p q r s (suc zero) h = q
@@ -107,14 +126,18 @@ up-to-three P p q r s (suc (suc zero)) h = r
 up-to-three P p q r s (suc (suc (suc zero))) h = s
 up-to-three P p q r s (suc (suc (suc (suc f)))) h = let none : ⊥ = omega arith in absurd none
 
-among-coded : (row : TableRow) (f : ℕ) → f ≤ 3 → getD (codedRow row .flags) f false ≡ isAmong f (row .flags)
-among-coded row = up-to-three (λ f. getD (codedRow row .flags) f false ≡ isAmong f (row .flags)) refl refl refl refl
-
 ip-bit : (f : ℕ) → f ≤ 3 → eqb (f % 2) 0 ≡ not (callerIpGiven f)
 ip-bit = up-to-three (λ f. eqb (f % 2) 0 ≡ not (callerIpGiven f)) refl refl refl refl
 
 instance-bit : (f : ℕ) → f ≤ 3 → eqb (f / 2) 0 ≡ not (instanceGiven f)
 instance-bit = up-to-three (λ f. eqb (f / 2) 0 ≡ not (instanceGiven f)) refl refl refl refl
+
+numbered-flags : (f : ℕ) → f ≤ 3 → getD flagValues f 0 ≡ f
+numbered-flags = up-to-three (λ f. getD flagValues f 0 ≡ f) refl refl refl refl
+
+at-flags : (test : ℕ → Bool) → T (eachHolds test flagValues) → (f : ℕ) → f ≤ 3 → T (test f)
+at-flags test t f h =
+    subst (λ (g : ℕ). T (test g)) (numbered-flags f h) (each-at test 0 flagValues (and-l (test 0) _ t) t f)
 
 -- tests made one after another, and in a list
 in-a-row : (t a b c d e f g h : Bool)
@@ -130,26 +153,24 @@ in-a-row true true true true true true true false h = refl
 in-a-row true true true true true true true true false = refl
 in-a-row true true true true true true true true true = refl
 
-lawful-coded : (row : TableRow) (r : Record) → T (codedRight row) → r .flags ≤ 3 → lawfulCoded (codedRow row) r ≡ lawfulIn row r
-lawful-coded row r t small =
-    let fs = row .flags in
-    let ip = alike (isAmong 1 fs || isAmong 3 fs) (flagExists callerIpGiven fs) in
-    let wakes = alike (isAmong 2 fs || isAmong 3 fs) (flagExists instanceGiven fs) in
-    let bits = and-l (ip && wakes) (eachHolds (sumSays row) allFields) t in
-    let noIp = alike-same (isAmong 1 fs || isAmong 3 fs) (flagExists callerIpGiven fs) (and-l ip wakes bits) in
-    let noInstance = alike-same (isAmong 2 fs || isAmong 3 fs) (flagExists instanceGiven fs) (and-r ip wakes bits) in
-    let uses : (field : Field) → eqb (fieldSum (row .used) / fieldBit field % 2) 1 ≡ hasField (row .used) field =
-    λ field. alike-same _ (hasField (row .used) field) (at-field (sumSays row) (and-r (ip && wakes) (eachHolds (sumSays row) allFields) t) field) in
-    (λ i. among-coded row (r .flags) small i
+lawful-coded : (row : TableRow) (r : Record) → CodedRight row → r .flags ≤ 3 → lawfulCoded (codedRow row) r ≡ lawfulIn row r
+lawful-coded row r right small =
+    let f = r .flags in
+    let allowed = alike-same (allowsCoded (codedRow row) f) (isAmong f (row .flags)) (at-flags (flagsSay row) (right .flags) f small) in
+    let ip = alike-same (allowsCoded (codedRow row) 1 || allowsCoded (codedRow row) 3) (flagExists callerIpGiven (row .flags)) (right .ip) in
+    let wakes = alike-same (allowsCoded (codedRow row) 2 || allowsCoded (codedRow row) 3) (flagExists instanceGiven (row .flags)) (right .instance) in
+    let uses : (field : Field) → usesCoded (codedRow row) (fieldBit field) ≡ hasField (row .used) field =
+    λ field. alike-same _ (hasField (row .used) field) (at-field (fieldsSay row) (right .used) field) in
+    (λ i. allowed i
     && (uses headField i || eqb (r .head) 0)
     && (uses paramsField i || eqb (r .params) 0)
     && (uses localsField i || eqb (r .locals) 0)
     && (uses slotsField i || eqb (r .slots) 0)
     && (uses resultsField i || eqb (r .results) 0)
-    && ((not (noIp i && ip-bit (r .flags) small i) && uses word1 i) || eqb (r .word1) 0)
+    && ((not (ip i && ip-bit f small i) && uses word1 i) || eqb (r .word1) 0)
     && (uses word2 i || eqb (r .word2) 0)
-    && ((not (noInstance i && instance-bit (r .flags) small i) && uses word3 i) || eqb (r .word3) 0))
-    ∙ in-a-row (isAmong (r .flags) fs) (keepsField row r headField) (keepsField row r paramsField) (keepsField row r localsField) (keepsField row r slotsField)
+    && ((not (wakes i && instance-bit f small i) && uses word3 i) || eqb (r .word3) 0))
+    ∙ in-a-row (isAmong f (row .flags)) (keepsField row r headField) (keepsField row r paramsField) (keepsField row r localsField) (keepsField row r slotsField)
     (keepsField row r resultsField) (keepsField row r word1) (keepsField row r word2) (keepsField row r word3)
 
 -- the row that the code looks up, and what a record keeps there
@@ -162,7 +183,7 @@ coded-kind (suc i) d some few =
 
 pub kept-in-table : (r : Record) (d : KindRow) → (r .kind ≡ 0 → ⊥) → r .kind ≤ 9 → r .flags ≤ 3
     → lawfulCoded (getD (map codedRow recordTable) (r .kind - 1) d) r ≡ lawfulRecord r
-unfolding alike lawfulRecord
+unfolding lawfulRecord
 kept-in-table r d some few small =
     ap (λ (row : KindRow). lawfulCoded row r) (coded-kind (r .kind) d some few)
-    ∙ lawful-coded (rowOfKind (r .kind)) r (at-kind codedRight tt tt (r .kind)) small
+    ∙ lawful-coded (rowOfKind (r .kind)) r (coded-right (r .kind)) small

@@ -1,0 +1,29 @@
+-- `record_vectors::lent::changed` is safe and ends. The invariant of its loop: it stays within the bytes. The measure is what is left.
+-- Assumes nothing.
+use Prim.Native.Nat.{_≤_, _-_}
+use borrow.Author.Needs.{needs}
+use lib.ListN.{length}
+use Rattle.record_vectors.proofs.lent.changed.Statement.{statement}
+use Rattle.record_vectors.proofs.lent.changed.Tie as tie
+
+abbrev Inv-loop : tie.InvT-loop
+Inv-loop bytes at n count₀ i₀ count i = i ≤ length bytes
+
+abbrev μ-loop : tie.MeasureT-loop
+μ-loop bytes at n count₀ i₀ count i = length bytes - i
+
+pub changed-spec : {M : Type 1} → statement M
+changed-spec =
+    tie.close
+    (tie.spec
+    Inv-loop
+    μ-loop
+    (λ c. search needs)
+    (λ c. search needs)
+    (λ c κs. search needs)
+    (λ c. search needs)
+    (λ c κs. search needs)
+    (λ c. search needs)
+    (λ c. search needs)
+    (λ c. search needs)
+    (λ c. search needs))

@@ -1,0 +1,28 @@
+-- `request_vectors::numbers::show` is safe and ends. The invariant of its loop: it stays within the numbers. The measure is what is left.
+-- Assumes nothing.
+use Prim.Native.Nat.{_≤_, _-_}
+use borrow.Author.Needs.{needs}
+use Rattle.request_vectors.proofs.numbers.show.Statement.{statement}
+use Rattle.request_vectors.proofs.numbers.show.Tie as tie
+
+abbrev Inv-loop : tie.InvT-loop
+Inv-loop all i₀ i = i ≤ 9
+
+abbrev μ-loop : tie.MeasureT-loop
+μ-loop all i₀ i = 9 - i
+
+pub show-spec : {M : Type 1} → statement M
+show-spec =
+    tie.close
+    (tie.spec
+    Inv-loop
+    μ-loop
+    (λ c κs. search needs)
+    (λ c. search needs)
+    (λ c. search needs)
+    (λ c. search needs)
+    (λ c κs. search needs)
+    (λ c. search needs)
+    (λ c. search needs)
+    (λ c. search needs)
+    (λ c. search needs))

@@ -26,7 +26,7 @@ Meant q = (requestIn (recordFor q) ≡ q) × (lawfulRecord (recordFor q) ≡ tru
 
 push-meant : (caller instance : Given) (callee head params locals slots : ℕ)
     → Meant (Push (record { caller = caller; callee = callee; head = head; params = params; locals = locals; slots = slots; instance = instance }))
-unfolding choose recordFor requestIn lawfulRecord
+unfolding choose requestIn lawfulRecord
 push-meant Absent Absent callee head params locals slots = (refl, refl)
 push-meant Absent (Value i) callee head params locals slots = (refl, refl)
 push-meant (Value p) Absent callee head params locals slots = (refl, refl)
@@ -34,17 +34,17 @@ push-meant (Value p) (Value i) callee head params locals slots = (refl, refl)
 
 replace-meant : (instance : Given) (callee head params locals slots : ℕ)
     → Meant (Replace (record { callee = callee; head = head; params = params; locals = locals; slots = slots; instance = instance }))
-unfolding choose recordFor requestIn lawfulRecord
+unfolding choose requestIn lawfulRecord
 replace-meant Absent callee head params locals slots = (refl, refl)
 replace-meant (Value i) callee head params locals slots = (refl, refl)
 
 host-meant : (caller : Given) (head params results : ℕ) → Meant (Host (record { caller = caller; head = head; params = params; results = results }))
-unfolding choose recordFor requestIn lawfulRecord
+unfolding choose requestIn lawfulRecord
 host-meant Absent head params results = (refl, refl)
 host-meant (Value p) head params results = (refl, refl)
 
 meant : (q : Request) → Meant q
-unfolding choose recordFor requestIn lawfulRecord
+unfolding choose requestIn lawfulRecord
 meant (Push q) = push-meant (q .caller) (q .instance) (q .callee) (q .head) (q .params) (q .locals) (q .slots)
 meant (Pop instance) = (refl, refl)
 meant (Replace q) = replace-meant (q .instance) (q .callee) (q .head) (q .params) (q .locals) (q .slots)
@@ -123,7 +123,7 @@ Says kind flags =
     recordFor (requestIn r) ≡ trimmed (rowOfKind kind) r
 
 says-trimmed : (kind : ℕ) → AllOf (Says kind) (rowOfKind kind .flags)
-unfolding choose recordFor requestIn
+unfolding choose requestIn
 says-trimmed zero = tt
 -- 1 push
 says-trimmed (suc zero) = (λ h p l s t a b c. refl, (λ h p l s t a b c. refl, (λ h p l s t a b c. refl, (λ h p l s t a b c. refl, tt))))

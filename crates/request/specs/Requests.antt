@@ -1,4 +1,5 @@
 -- The record that says a request, and the request that a lawful record says. Flags: 1 where a caller ip is given, 2 where an instance is.
+--     recordWith ..   a record by its numbers: kind, flags, head, params, locals, slots, results, words 1 to 3
 --     recordFor q     the record of a request: its kind's number, the flags, and each number in the field of its name; 0 everywhere else.
 --                     Word 1 is the caller ip, word 2 the callee ip or the cell, word 3 the instance
 --     requestIn r     the request of a record
@@ -24,85 +25,33 @@ abbrev pub flagBit : Given → (bit : ℕ) → ℕ
 flagBit Absent bit = 0
 flagBit (Value n) bit = bit
 
-abbrev pub pushRecord : PushArgs → Record
-pushRecord q = record {
-  kind = 1;
-  flags = flagBit (q .caller) 1 + flagBit (q .instance) 2;
-  head = q .head;
-  params = q .params;
-  locals = q .locals;
-  slots = q .slots;
-  results = 0;
-  word1 = givenNumber (q .caller);
-  word2 = q .callee;
-  word3 = givenNumber (q .instance);
+abbrev pub recordWith : (kind flags head params locals slots results word1 word2 word3 : ℕ) → Record
+recordWith kind flags head params locals slots results word1 word2 word3 = record {
+  kind = kind;
+  flags = flags;
+  head = head;
+  params = params;
+  locals = locals;
+  slots = slots;
+  results = results;
+  word1 = word1;
+  word2 = word2;
+  word3 = word3;
 }
 
-abbrev pub popRecord : (instance : ℕ) → Record
-popRecord instance = record { kind = 2; flags = 2; head = 0; params = 0; locals = 0; slots = 0; results = 0; word1 = 0; word2 = 0; word3 = instance }
-
-abbrev pub replaceRecord : ReplaceArgs → Record
-replaceRecord q = record {
-  kind = 3;
-  flags = flagBit (q .instance) 2;
-  head = q .head;
-  params = q .params;
-  locals = q .locals;
-  slots = q .slots;
-  results = 0;
-  word1 = 0;
-  word2 = q .callee;
-  word3 = givenNumber (q .instance);
-}
-
-abbrev pub hostRecord : HostArgs → Record
-hostRecord q = record {
-  kind = 4;
-  flags = flagBit (q .caller) 1;
-  head = q .head;
-  params = q .params;
-  locals = 0;
-  slots = 0;
-  results = q .results;
-  word1 = givenNumber (q .caller);
-  word2 = 0;
-  word3 = 0;
-}
-
-abbrev pub returnHostRecord : ReturnHostArgs → Record
-returnHostRecord q = record {
-  kind = 5;
-  flags = 2;
-  head = q .head;
-  params = q .params;
-  locals = 0;
-  slots = 0;
-  results = q .results;
-  word1 = 0;
-  word2 = 0;
-  word3 = q .instance;
-}
-
-abbrev pub syncRecord : (ip : ℕ) → Record
-syncRecord ip = record { kind = 6; flags = 0; head = 0; params = 0; locals = 0; slots = 0; results = 0; word1 = ip; word2 = 0; word3 = 0 }
-
--- restore, reset: nothing but the kind
-abbrev pub bareRecord : (kind : ℕ) → Record
-bareRecord kind = record { kind = kind; flags = 0; head = 0; params = 0; locals = 0; slots = 0; results = 0; word1 = 0; word2 = 0; word3 = 0 }
-
-abbrev pub setRecord : (head cell : ℕ) → Record
-setRecord head cell = record { kind = 9; flags = 0; head = head; params = 0; locals = 0; slots = 0; results = 0; word1 = 0; word2 = cell; word3 = 0 }
-
-unfoldable pub recordFor : Request → Record
-recordFor (Push q) = pushRecord q
-recordFor (Pop instance) = popRecord instance
-recordFor (Replace q) = replaceRecord q
-recordFor (Host q) = hostRecord q
-recordFor (ReturnHost q) = returnHostRecord q
-recordFor (Sync ip) = syncRecord ip
-recordFor Restore = bareRecord 7
-recordFor Reset = bareRecord 8
-recordFor (Set head cell) = setRecord head cell
+abbrev pub recordFor : Request → Record
+recordFor (Push q) =
+    recordWith 1 (flagBit (q .caller) 1 + flagBit (q .instance) 2) (q .head) (q .params) (q .locals) (q .slots) 0
+    (givenNumber (q .caller)) (q .callee) (givenNumber (q .instance))
+recordFor (Pop instance) = recordWith 2 2 0 0 0 0 0 0 0 instance
+recordFor (Replace q) =
+    recordWith 3 (flagBit (q .instance) 2) (q .head) (q .params) (q .locals) (q .slots) 0 0 (q .callee) (givenNumber (q .instance))
+recordFor (Host q) = recordWith 4 (flagBit (q .caller) 1) (q .head) (q .params) 0 0 (q .results) (givenNumber (q .caller)) 0 0
+recordFor (ReturnHost q) = recordWith 5 2 (q .head) (q .params) 0 0 (q .results) 0 0 (q .instance)
+recordFor (Sync ip) = recordWith 6 0 0 0 0 0 0 ip 0 0
+recordFor Restore = recordWith 7 0 0 0 0 0 0 0 0 0
+recordFor Reset = recordWith 8 0 0 0 0 0 0 0 0 0
+recordFor (Set head cell) = recordWith 9 0 head 0 0 0 0 0 cell 0
 
 -- ---- the request of a record
 

@@ -1,11 +1,9 @@
 -- `request::said::record_of` meets its contract: in each arm the request is known. Assumes nothing.
 use borrow.Author.Needs.{needs}
-use Rattle.request.specs.Requests.{recordFor}
 use Rattle.request.proofs.said.record_of.Statement.{statement}
 use Rattle.request.proofs.said.record_of.Tie as tie
 
 pub record-of-spec : {M : Type 1} → statement M
-unfolding recordFor
 record-of-spec =
     tie.close
     (tie.spec
@@ -33,6 +31,6 @@ record-of-spec =
     (λ c. rw (c .before .before .q4 .given .1) (c .host-record .ensures))
     (λ c. rw (c .before .before .q5 .given .1) (c .return-host-record .ensures))
     (λ c. rw (c .before .before .q6 .given .1) (c .sync-record .ensures))
-    (λ c. rw (c .before .enum-told .given .1) (c .bare-record .ensures))
-    (λ c. rw (c .before .enum-told2 .given .1) (c .bare-record2 .ensures))
+    (λ c. rw (c .before .enum-told .given .1) (c .restore-record .ensures))
+    (λ c. rw (c .before .enum-told2 .given .1) (c .reset-record .ensures))
     (λ c. rw (c .before .before .q7 .given .1) (c .set-record .ensures)))

@@ -1,7 +1,7 @@
 -- One law for every ordered list of refusals: all its tests are false and the answer is `done`, or a first one is true and the answer is the
 -- refusal with its number. From it, that a number is given exactly when the first true test has it. Assumes nothing.
 use mathlib.Core.Path.{_≡_, refl, sym, ap, _∙_}
-use mathlib.Core.Bool.{Bool, true, false, _&&_}
+use mathlib.Core.Bool.{Bool, true, false}
 use mathlib.Core.List.{List, [], _∷_}
 use mathlib.Core.Logic.{_↔_, _⊎_, inl, inr}
 use Prim.Native.Nat.{ℕ, _≤_, _<_}
@@ -63,6 +63,17 @@ module _ {A : Type 0} (number : A → ℕ) (f : ℕ → A) (a : A) (own : (n : �
 
   pub exactly : (n : ℕ) → 2 ≤ n → number v ≡ n ↔ FirstIs ts n
   exactly n h = (only-then n h, given-then)
+
+  -- and where the number is no refusal's, every test is false
+  pub passed-then : T (refusals ts) → number v < 2 → Passed ts
+  passed-then t h = go (verdict ts)
+    where
+      go : Verdict ts → Passed ts
+      go (passes p) = p
+      go (fails m p) =
+          let same : number v ≡ m = given-then p in
+          let more = at-least-two p t in
+          absurd (omega arith)
 
 -- in a list of one test, that it is the first is that it is true
 first-true : {t : Bool} {n : ℕ} → FirstIs ((t gives n) ∷ []) n → t ≡ true

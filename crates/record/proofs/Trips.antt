@@ -1,5 +1,5 @@
 -- Written and read, read and written: the three statements of specs/Trips.antt. Assumes nothing.
-use mathlib.Core.Path.{_≡_, sym, ap, _∙_}
+use mathlib.Core.Path.{_≡_, refl, sym, ap, _∙_, subst}
 use mathlib.Core.Bool.{not}
 use mathlib.Core.Logic.{_⊎_}
 use mathlib.Core.List.{List, [], _∷_}
@@ -10,16 +10,16 @@ use lib.ListN.{length, getD, take, drop}
 use lib.Seq.{sets, length-sets, getD-drop, take-all}
 use borrow.Author.Tests.{ltb-false}
 use Rattle.choice.specs.Tests.{Passed}
-use Rattle.choice.proofs.Verdict.{accepts, refuses, Verdict, passes, fails, verdict, at-least-two}
+use Rattle.choice.proofs.Verdict.{Verdict, passes, fails, verdict}
 use Rattle.runs.proofs.Lists.{sets-there, sets-same, sets-outside, length-within}
 use Rattle.record.specs.declared.Record.{Record}
 use Rattle.record.specs.Numbers.{numbersIn, bytesOfAll, AllBytes}
 use Rattle.record.specs.Form.{recordWidths, recordSize, recordNumbers, recordOfNumbers, recordBytes, recordIn, spareIn, FieldsFit}
 use Rattle.record.specs.Kinds.{lawfulRecord}
-use Rattle.record.specs.Reading.{partAt, recordAt, readNumber, readTests, readAt, ShownWrite, writeNumber, writeRefused, writeDone, writeTests, recordWritten}
+use Rattle.record.specs.Reading.{partAt, recordAt, readNumber, readTests, readAt, ShownWrite, writeNumber, writeTests, recordWritten}
 use Rattle.record.specs.Trips.{WrittenReadsBack, ReadWritesBack, WritesNowhereElse}
 use Rattle.record.proofs.Spelling.{numbers-spelt, all-bytes-spelt}
-use Rattle.record.proofs.Reading.{found-passes, passes-found}
+use Rattle.record.proofs.Reading.{passes-found, found-passes, passes-written, fails-unwritten, written-passes}
 
 -- ---- of 40 bytes
 module _ (r : Record) (fits : FieldsFit r) where
@@ -43,21 +43,6 @@ bytes-back b n y z =
 
 -- ---- at a place of a buffer
 module _ (bytes : List ℕ) (at : ℕ) (r : Record) where
-  pub written-passes : recordWritten bytes at r .number ≡ 0 → Passed (writeTests bytes at r)
-  unfolding writeTests recordWritten
-  written-passes e = by (verdict (writeTests bytes at r))
-    where
-      by : Verdict (writeTests bytes at r) → Passed (writeTests bytes at r)
-      by (passes p) = p
-      by (fails n p) =
-          let same : n ≡ 0 = sym (ap (λ (s : ShownWrite). s .number) (refuses (writeRefused bytes) (writeDone bytes at r) p)) ∙ e in
-          let more = at-least-two p tt in
-          absurd (omega arith)
-
-  pub passes-written : Passed (writeTests bytes at r) → recordWritten bytes at r ≡ writeDone bytes at r
-  unfolding writeTests recordWritten
-  passes-written p = accepts (writeRefused bytes) (writeDone bytes at r) (writeTests bytes at r) p
-
   module _ (fits : FieldsFit r) (p : Passed (writeTests bytes at r)) where
     part-back : partAt (sets bytes at (recordBytes r)) at ≡ recordBytes r
     unfolding writeTests
@@ -78,7 +63,7 @@ module _ (bytes : List ℕ) (at : ℕ) (r : Record) where
 
 pub written-reads-back : WrittenReadsBack
 written-reads-back bytes at r fits e =
-    let p = written-passes bytes at r e in
+    let p = written-passes bytes at r (recordWritten bytes at r) refl (subst (λ (n : ℕ). n < 2) (sym e) (lit< tt)) in
     ap (λ (s : ShownWrite). readAt (s .bytes) at) (passes-written bytes at r p)
     ∙ passes-found (sets bytes at (recordBytes r)) at (read-passes bytes at r fits p)
     ∙ ap (readNumber 0) (found-back bytes at r fits p)
@@ -103,7 +88,6 @@ read-writes-back bytes at r y e =
     ∙ ap (writeNumber 0) (sets-same bytes at recordSize long)
 
 pub writes-nowhere-else : WritesNowhereElse
-unfolding writeTests recordWritten
 writes-nowhere-else bytes at r = by (verdict (writeTests bytes at r))
   where
     by : Verdict (writeTests bytes at r)
@@ -115,5 +99,5 @@ writes-nowhere-else bytes at r = by (verdict (writeTests bytes at r))
           λ k h. ap (λ (s : ShownWrite). getD (s .bytes) k 0) same ∙ sets-outside (recordBytes r) bytes at k h,
         )
     by (fails n p) =
-        let same = refuses (writeRefused bytes) (writeDone bytes at r) p in
+        let same = fails-unwritten bytes at r p in
         (ap (λ (s : ShownWrite). length (s .bytes)) same, λ k h. ap (λ (s : ShownWrite). getD (s .bytes) k 0) same)

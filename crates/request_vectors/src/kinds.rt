@@ -45,6 +45,7 @@ pub fn run() {
     show(host(Given::Absent, 0xffff, 0, 0xfffe));
     show(host(Given::Value(0x100_0000_0000), 0, 0xffff, 5));
     show(return_host(0xfffd, 0xffff, 0, 0));
+    show(return_host(1, 2, 0xfeff, MOST));
     show(Request::Sync(MOST));
     show(Request::Restore);
     show(Request::Reset);

@@ -1,7 +1,6 @@
 -- The record that says a request, and the request that a lawful record says. Flags: 1 where a caller ip is given, 2 where an instance is.
---     recordWith ..   a record by its numbers: kind, flags, head, params, locals, slots, results, words 1 to 3
 --     recordFor q     the record of a request: its kind's number, the flags, and each number in the field of its name; 0 everywhere else.
---                     Word 1 is the caller ip, word 2 the callee ip or the cell, word 3 the instance
+--                     `recordWith` has kind, flags, head, params, locals, slots, results, words 1 to 3, in this order. Word 1 is the caller ip, word 2 the callee ip or the cell, word 3 the instance
 --     requestIn r     the request of a record
 use mathlib.Core.Bool.{Bool, true, false}
 use Prim.Native.Nat.{ℕ, _+_}
@@ -11,6 +10,7 @@ use Rattle.given.specs.declared.Given.{Given}
 use Rattle.given.specs.declared.Given.the-variants.{Absent, Value}
 use Rattle.given.specs.Given.{givenNumber}
 use Rattle.record.specs.declared.Record.{Record}
+use Rattle.record.specs.Form.{recordWith}
 use Rattle.record.specs.Kinds.{callerIpGiven, instanceGiven}
 use Rattle.rules.specs.declared.PushArgs.{PushArgs}
 use Rattle.rules.specs.declared.ReplaceArgs.{ReplaceArgs}
@@ -24,20 +24,6 @@ use Rattle.rules.specs.declared.Request.the-variants.{Push, Pop, Replace, Host,
 abbrev pub flagBit : Given → (bit : ℕ) → ℕ
 flagBit Absent bit = 0
 flagBit (Value n) bit = bit
-
-abbrev pub recordWith : (kind flags head params locals slots results word1 word2 word3 : ℕ) → Record
-recordWith kind flags head params locals slots results word1 word2 word3 = record {
-  kind = kind;
-  flags = flags;
-  head = head;
-  params = params;
-  locals = locals;
-  slots = slots;
-  results = results;
-  word1 = word1;
-  word2 = word2;
-  word3 = word3;
-}
 
 abbrev pub recordFor : Request → Record
 recordFor (Push q) =

@@ -1,6 +1,7 @@
 -- The record that says a request, and the request that a lawful record says. Flags: 1 where a caller ip is given, 2 where an instance is.
 --     recordFor q     the record of a request: its kind's number, the flags, and each number in the field of its name; 0 everywhere else.
---                     `recordWith` has kind, flags, head, params, locals, slots, results, words 1 to 3, in this order. Word 1 is the caller ip, word 2 the callee ip or the cell, word 3 the instance
+--                     Word 1 is the caller ip, word 2 the callee ip or the cell, word 3 the instance. (`recordWith` has kind, flags, head, params,
+--                     locals, slots, results, words 1 to 3.)
 --     requestIn r     the request of a record
 use mathlib.Core.Bool.{Bool, true, false}
 use Prim.Native.Nat.{ℕ, _+_}

@@ -20,7 +20,7 @@ use Rattle.rules.specs.Events.{Event, asks, hostWrote, steppedBy, ranThrough}
 use Rattle.rules.specs.Returning.{NeverBelow, KeepToParts, lentBy}
 use Rattle.rules.proofs.Kept.{part-changes-nothing}
 use Rattle.stack_hosts.specs.Routine.{sumStored, hostCalled}
-use Rattle.histories.specs.Chains.{Told, by-push-frame, by-pop-frame, by-replace-frame, by-prepare-host-frame, by-return-prepare-host-frame, by-sync-ip, by-restore-frame, by-reset, by-set, by-sync-regs, by-host-inout, RoutineTold, by-call-host, routineWrites, Chain, chain-end, function-called, host-stored, routine-called, ChainKeeps}
+use Rattle.histories.specs.Chains.{Told, by-push-frame, by-pop-frame, by-replace-frame, by-prepare-host-frame, by-return-prepare-host-frame, by-sync-ip, by-restore-frame, by-reset, by-set, by-sync-regs, by-ask, by-host-inout, RoutineTold, by-call-host, routineWrites, Chain, chain-end, function-called, host-stored, routine-called, ChainKeeps}
 
 pub told-answered : {w : World} {a : Asked} {t : After} → Told w a t → t ≡ answered w a
 told-answered (by-push-frame κ a r e p) = p
@@ -33,6 +33,7 @@ told-answered (by-restore-frame κ a r e p) = p
 told-answered (by-reset κ a r e p) = p
 told-answered (by-set κ a r e p) = p
 told-answered (by-sync-regs κ a r e p) = p
+told-answered (by-ask κ a r e p) = p
 told-answered (by-host-inout κ a r e p) = p
 
 -- ---- the routine

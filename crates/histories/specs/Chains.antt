@@ -22,6 +22,7 @@ use Rattle.rules.specs.Answers.{After, shownOutcome}
 use Rattle.rules.specs.Hosts.{partTests}
 use Rattle.rules.specs.Events.{Event, asks, hostWrote}
 use Rattle.rules.specs.Returning.{lentBy, Inside}
+use Rattle.ask.proofs.ask.Reads as ask-any
 use Rattle.stack.proofs.sync_regs.Reads as sync-regs
 use Rattle.stack.proofs.reset.Reads as reset
 use Rattle.stack.proofs.restore_frame.Reads as restore-frame
@@ -58,6 +59,8 @@ pub data Told : World → Asked → After → Type 0 where
       → Told (worldOf (a .0) (now (a .1 .0)) (now (a .1 .1 .0))) (Traced (Set (a .1 .1 .1 .0) (a .1 .1 .1 .1 .0))) (shownOutcome r (now (a .1 .0)) (now (e .1 .1 .0)))
   by-sync-regs : (κ : _) (a : _) (r : Outcome) (e : _) → sync-regs.Post κ a r e
       → Told (worldOf (a .0) (now (a .1 .0)) (now (a .1 .1 .0))) (SyncRegs (a .1 .1 .1 .0)) (shownOutcome r (now (a .1 .0)) (now (a .1 .1 .0)))
+  by-ask : (κ : _) (a : _) (r : Outcome) (e : _) → ask-any.Post κ a r e
+      → Told (worldOf (a .0) (now (a .1 .0)) (now (a .1 .1 .0))) (Traced (a .1 .1 .1 .0)) (shownOutcome r (now (e .1 .0)) (now (e .1 .1 .0)))
   by-host-inout : (κ : _) (a : _) (r : Outcome) (e : _) → host-inout.Post κ a r e
       → Told (worldOf (a .0) (now (a .1 .0)) (now (a .1 .1 .0))) (HostPart (a .1 .1 .1 .0)) (shownOutcome r (now (a .1 .0)) (now (a .1 .1 .0)))
 

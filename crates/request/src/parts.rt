@@ -8,6 +8,7 @@ use crate::kinds::RESTORE;
 use crate::kinds::RETURN_HOST;
 use crate::kinds::SYNC;
 use given::Given;
+use given::given_if;
 use record::Record;
 use rules::HostArgs;
 use rules::PushArgs;
@@ -15,7 +16,7 @@ use rules::ReplaceArgs;
 use rules::Request;
 use rules::ReturnHostArgs;
 ghost use mathlib.Core.Path.{_≡_};
-ghost use Rattle.request.specs.Requests.{givenIf, callerIn, instanceIn, pushIn, replaceIn, hostIn, returnHostIn, requestIn};
+ghost use Rattle.request.specs.Requests.{callerIn, instanceIn, pushIn, replaceIn, hostIn, returnHostIn, requestIn};
 
 pub(crate) fn request_in(r: Record) -> Request
     ensures { λ q. ⌜ q ≡ requestIn r ⌝ }
@@ -94,13 +95,4 @@ fn instance_in(r: Record) -> Given
     ensures { λ g. ⌜ g ≡ instanceIn r ⌝ }
 {
     given_if(r.flags / 2 % 2 == 1, r.word3)
-}
-
-fn given_if(set: bool, word: u64) -> Given
-    ensures { λ g. ⌜ g ≡ givenIf set word ⌝ }
-{
-    if set {
-        return Given::Value(word);
-    }
-    Given::Absent
 }

@@ -62,7 +62,8 @@ pub fn pop_frame(s: State, words: &[u64], cells: &[u64], instance: u64) -> Outco
     }
 }
 
-fn popped_in(s: State, words: &[u64], cells: &[u64], instance: u64, room: Room) -> Outcome
+// The step of a pop, in the room that was judged.
+pub fn popped_in(s: State, words: &[u64], cells: &[u64], instance: u64, room: Room) -> Outcome
     ensures { λ r. ⌜ shownOutcome r (now (words .entry)) (now (cells .entry)) ≡ popped (worldOf s (now (words .entry)) (now (cells .entry))) instance room ⌝ }
 {
     let depth = s.depth;

@@ -115,7 +115,8 @@ pub fn push_frame(s: State, words: &mut [u64], cells: &mut [u64], q: PushArgs) -
     }
 }
 
-fn pushed_in(s: State, words: &mut [u64], cells: &mut [u64], q: PushArgs, room: Room) -> Outcome
+// The step of a push, in the room that was judged.
+pub fn pushed_in(s: State, words: &mut [u64], cells: &mut [u64], q: PushArgs, room: Room) -> Outcome
     ensures { λ r. ⌜ shownOutcome r (now (words .exit)) (now (cells .exit)) ≡ pushed (worldOf s (now (words .entry)) (now (cells .entry))) q room ⌝ }
 {
     let depth = s.depth;

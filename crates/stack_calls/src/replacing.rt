@@ -100,7 +100,8 @@ pub fn replace_frame(s: State, words: &mut [u64], cells: &mut [u64], q: ReplaceA
     }
 }
 
-fn replaced_in(
+// The step of a replace, in the room that was judged.
+pub fn replaced_in(
     s: State,
     words: &mut [u64],
     cells: &mut [u64],

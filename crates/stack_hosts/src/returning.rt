@@ -79,7 +79,8 @@ pub fn return_prepare_host_frame(
     }
 }
 
-fn returned_host_in(
+// The step of a return-host, in the room that was judged.
+pub fn returned_host_in(
     s: State,
     words: &[u64],
     cells: &mut [u64],

@@ -1,0 +1,47 @@
+-- `cattlecleat::replaying::replay_input` is safe and ends. The invariant of its loop: each buffer keeps its length, and the count is at most its end.
+-- Assumes nothing.
+use Prim.Native.Nat.{_≤_, _-_}
+use mathlib.Core.Path.{_≡_}
+use borrow.Author.Needs.{needs}
+use lib.ListN.{length}
+use Rattle.cattlecleat.proofs.replaying.replay_input.Statement.{statement}
+use Rattle.cattlecleat.proofs.replaying.replay_input.Tie as tie
+
+abbrev Inv-loop : tie.InvT-loop
+Inv-loop words₀ cells₀ block₀ text₀ run₀ counter₀ words cells block text run counter = (length words ≡ length words₀) × (length cells ≡ length cells₀) × (length block ≡ length block₀) × (length text ≡ length text₀) × (counter ≤ 626)
+
+abbrev μ-loop : tie.MeasureT-loop
+μ-loop words₀ cells₀ block₀ text₀ run₀ counter₀ words cells block text run counter = 626 - counter
+
+pub replay-input-spec : {M : Type 1} → statement M
+replay-input-spec =
+    tie.close
+    (tie.spec
+    Inv-loop
+    μ-loop
+    (λ c κs. search needs)
+    (λ c κs. search needs)
+    (λ c. search needs)
+    (λ c κs. search needs)
+    (λ c. search needs)
+    (λ c. search needs)
+    (λ c κs. search needs)
+    (λ c. search needs)
+    (λ c. search needs)
+    (λ c. search needs)
+    (λ c. search needs)
+    (λ c. search needs)
+    (λ c. search needs)
+    (λ c. search needs)
+    (λ c. search needs)
+    (λ c. search needs)
+    (λ c. search needs)
+    (λ c. search needs)
+    (λ c. search needs)
+    (λ c. search needs)
+    (λ c. search needs)
+    (λ c. search needs)
+    (λ c. search needs)
+    (λ c. search needs)
+    (λ c. search needs)
+    (λ c. search needs))

@@ -1,0 +1,16 @@
+// cattlecleat: replays a trace and prints document 01's listing of it.
+mod input;
+mod limits;
+mod replaying;
+mod say;
+mod word;
+
+use word::Word;
+
+fn main() {
+    match word::asked() {
+        Word::Replay => replaying::run(),
+        Word::Help => say::help(),
+        Word::Unknown => say::unknown(),
+    }
+}

@@ -1,0 +1,7 @@
+pub mod Records
+pub mod Work
+pub mod Spent
+pub mod Resumed
+pub mod Packing
+pub mod Turns
+pub mod Settled

@@ -1,0 +1,7 @@
+pub mod Costs
+pub mod Work
+pub mod Running
+pub mod Spent
+pub mod Resumed
+pub mod Turns
+pub mod Packing

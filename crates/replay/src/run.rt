@@ -85,6 +85,7 @@ pub(crate) fn run_asked(run: Run, words: &mut [u64], cells: &mut [u64], q: Reque
     run_request(run, words, cells, q)
 }
 
+// Acceptance is decided first: the cost depends on it.
 fn run_request(run: Run, words: &mut [u64], cells: &mut [u64], q: Request) -> Ran
     ensures { λ r. ⌜ shownRan r (now (words .exit)) (now (cells .exit))
         ≡ ranOn (runningOf run (now (words .entry)) (now (cells .entry))) (Asks q) ⌝ }
@@ -110,6 +111,7 @@ fn refused_at(run: Run, words: &[u64], cells: &[u64], number: u64) -> Ran
     went_on(run, state, spent + 1, number, 0)
 }
 
+// An accepted record: the fuel is tested, and only then is anything written.
 fn run_in(run: Run, words: &mut [u64], cells: &mut [u64], q: Request, room: Room) -> Ran
     ensures { λ r. ⌜ shownRan r (now (words .exit)) (now (cells .exit))
         ≡ ranAt (runningOf run (now (words .entry)) (now (cells .entry)))

@@ -3,7 +3,7 @@
 --     step-left, step-used   a record takes its line off what is left, and uses no more than the longest line
 --     stop-left, end-left    after a stop, and at the end, nothing is left
 --     block-whole            at the start all is
-use mathlib.Core.Path.{_≡_, refl, sym, ap, subst, _∙_}
+use mathlib.Core.Path.{_≡_, refl, sym, ap, _∙_}
 use mathlib.Core.Bool.{Bool, true, false}
 use mathlib.Core.List.{List, [], _∷_, _++_, append-nil}
 use Prim.Native.Nat.{ℕ, _+_, _≤_, _<_}
@@ -14,14 +14,14 @@ use Rattle.choice.specs.Choose.{choose}
 use Rattle.choice.proofs.Choices.{chosen-first, chosen-second}
 use Rattle.given.specs.Given.{isGiven}
 use Rattle.runs.proofs.Lists.{sets-append}
-use Rattle.lines.specs.Text.{lineText, ShownText, shownText, longestText, textPut}
+use Rattle.lines.specs.Text.{lineText, shownText, longestText, textPut}
 use Rattle.lines.proofs.Texts.{line-fits, textPut-room}
 use Rattle.request.specs.declared.Decoded.{Decoded}
 use Rattle.request.specs.Walk.{nextPlace}
 use Rattle.request.specs.Entries.{entryAt, entriesLeft, entriesIn}
 use Rattle.request.proofs.Entries.{entries-go, entries-end}
 use Rattle.replay.specs.Running.{Running, ran, ranAll, replayed}
-use Rattle.replay.specs.Turns.{ShownTurn, turnOf, turnAt}
+use Rattle.replay.specs.Turns.{ShownTurn}
 use Rattle.replay.proofs.Spent.{stop-stays}
 use Rattle.replay.proofs.Turns.{turn-inside}
 use Rattle.listing.specs.Listing.{lineOf, linesBy, linesOf, saidOf, textOf}

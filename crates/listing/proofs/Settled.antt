@@ -1,9 +1,9 @@
 -- Each public promise allows one outcome: one result, and one list of words, of cells and of text where they are lent to be written. Assumes nothing.
-use mathlib.Core.Path.{_≡_, sym, ap, _∙_}
+use mathlib.Core.Path.{sym, ap, _∙_}
 use denote.Ref.{now}
 use Rattle.choice.specs.Once.{OnceSeen, beside}
 use Rattle.lines.specs.Text.{ShownText}
-use Rattle.replay.specs.Running.{runWith}
+use Rattle.replay.specs.Running.{runOf}
 use Rattle.listing.specs.declared.block.Listed.{Listed}
 use Rattle.listing.specs.Blocks.{ListedBlock}
 use Rattle.listing.proofs.block.list_block.Reads as list-block
@@ -11,7 +11,7 @@ use Rattle.listing.proofs.end.list_end.Reads as list-end
 
 -- what is shown of a block tells what was handed back
 abbrev listedFrom : ListedBlock → Listed
-listedFrom b = record { run = runWith (b .run .world .state) (b .run .number) (b .run .fuel) (b .run .spent) (b .run .stop); used = b .used }
+listedFrom b = record { run = runOf (b .run); used = b .used }
 
 pub list-block-settled : OnceSeen list-block.Post (λ κ r e. beside r (beside (now (e .1 .0)) (beside (now (e .1 .1 .0)) (now (e .1 .1 .1 .1 .0)))))
 list-block-settled κ a r r′ e e′ p q =

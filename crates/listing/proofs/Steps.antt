@@ -17,7 +17,7 @@ use Rattle.given.specs.declared.Given.{Given}
 use Rattle.given.specs.declared.Given.the-variants.{Absent, Value}
 use Rattle.given.specs.Given.{isGiven}
 use Rattle.runs.proofs.Lists.{sets-append}
-use Rattle.lines.specs.Text.{lineText, stoppedText, spentText, ShownText, shownText, longestText, textPut}
+use Rattle.lines.specs.Text.{lineText, stoppedText, spentText, ShownText, shownText, textPut}
 use Rattle.lines.proofs.Texts.{stopped-fits, textPut-room}
 use Rattle.request.specs.Entries.{recordCount, entriesIn}
 use Rattle.replay.specs.declared.trace.Turn.{Turn}

@@ -1,7 +1,5 @@
 -- Unpacking a packed run gives that run. Assumes nothing.
-use mathlib.Core.Path.{_≡_}
 use Rattle.given.proofs.Flags.{given-again}
-use Rattle.replay.specs.declared.run.Run.{Run}
 use Rattle.replay.specs.Packing.{PackedAgain}
 
 pub packed-again : PackedAgain

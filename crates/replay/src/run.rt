@@ -1,7 +1,6 @@
 // One record of a replay. The run goes in by value and comes back: acceptance is decided first, then the fuel, and only then is anything written.
 ghost use mathlib.Core.Path.{_≡_};
 ghost use Prim.Native.Nat.{_+_, _-_};
-ghost use lib.Dec.{ltb};
 ghost use Rattle.rules.specs.World.{worldOf};
 ghost use Rattle.rules.specs.declared.Asked.the-variants.{Traced};
 ghost use Rattle.rules.specs.Answers.{refusedWith};

@@ -1,0 +1,88 @@
+-- What is handed out and in again is the same: a state, a run, a request. Assumes nothing.
+use mathlib.Core.Path.{_≡_, refl}
+use Prim.Native.Nat.{_+_, _/_, _%_}
+use Rattle.given.specs.declared.Given.{Given}
+use Rattle.given.specs.declared.Given.the-variants.{Absent, Value}
+use Rattle.given.specs.Given.{isGiven, givenNumber, givenIf}
+use Rattle.regs.specs.Convert.{truthBit, truthOf}
+use Rattle.choice.specs.Choose.{choose}
+use Rattle.rules.specs.declared.Request.the-variants.{Push, Pop, Replace, Host, ReturnHost, Sync, Restore, Reset, Set}
+use Rattle.request.specs.declared.Decoded.the-variants.{Asks}
+use Rattle.request.specs.Requests.{flagBit}
+use Rattle.station.specs.States.{StateKept}
+use Rattle.station.specs.Requests.{requestFrom, RequestKept}
+use Rattle.station.specs.Runs.{RunKept}
+
+given-kept : (g : Given) → givenIf (truthOf (truthBit (isGiven g))) (givenNumber g) ≡ g
+given-kept Absent = refl
+given-kept (Value n) = refl
+
+pub state-kept : StateKept
+state-kept s = λ i. record {
+  depth = s .depth;
+  height = s .height;
+  words = s .words;
+  cells = s .cells;
+  count = s .count;
+  len = s .len;
+  current = given-kept (s .current) i;
+  regs = s .regs;
+}
+
+pub run-kept : RunKept
+run-kept r = λ i. record {
+  state = state-kept (r .state) i;
+  number = r .number;
+  fuel = r .fuel;
+  spent = r .spent;
+  stop = given-kept (r .stop) i;
+}
+
+-- the two flags of a record, each by itself
+caller-kept : (c i : Given) → givenIf (truthOf ((flagBit c 1 + flagBit i 2) % 2)) (givenNumber c) ≡ c
+caller-kept Absent Absent = refl
+caller-kept Absent (Value n) = refl
+caller-kept (Value m) Absent = refl
+caller-kept (Value m) (Value n) = refl
+
+instance-kept : (c i : Given) → givenIf (truthOf ((flagBit c 1 + flagBit i 2) / 2 % 2)) (givenNumber i) ≡ i
+instance-kept Absent Absent = refl
+instance-kept Absent (Value n) = refl
+instance-kept (Value m) Absent = refl
+instance-kept (Value m) (Value n) = refl
+
+-- and one alone
+lone-caller : (c : Given) → givenIf (truthOf (flagBit c 1 % 2)) (givenNumber c) ≡ c
+lone-caller Absent = refl
+lone-caller (Value n) = refl
+
+lone-instance : (i : Given) → givenIf (truthOf (flagBit i 2 / 2 % 2)) (givenNumber i) ≡ i
+lone-instance Absent = refl
+lone-instance (Value n) = refl
+
+pub request-kept : RequestKept
+unfolding choose requestFrom
+request-kept (Push q) = λ i. Asks (Push (record {
+  caller = caller-kept (q .caller) (q .instance) i;
+  callee = q .callee;
+  head = q .head;
+  params = q .params;
+  locals = q .locals;
+  slots = q .slots;
+  instance = instance-kept (q .caller) (q .instance) i;
+}))
+request-kept (Pop instance) = refl
+request-kept (Replace q) = λ i. Asks (Replace (record {
+  callee = q .callee;
+  head = q .head;
+  params = q .params;
+  locals = q .locals;
+  slots = q .slots;
+  instance = lone-instance (q .instance) i;
+}))
+request-kept (Host q) = λ i. Asks (Host (record { caller = lone-caller (q .caller) i; head = q .head; params = q .params; results = q .results }))
+request-kept (ReturnHost q) = refl
+request-kept (Sync ip) = refl
+request-kept Restore = refl
+request-kept Reset = refl
+request-kept (Set head cell) = refl

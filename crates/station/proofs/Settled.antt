@@ -1,0 +1,59 @@
+-- Each public promise allows one outcome: one result, and one list of what each buffer holds where it is lent to be written. Assumes nothing.
+use mathlib.Core.Path.{sym, ap, _∙_}
+use denote.Ref.{now}
+use Rattle.choice.specs.Once.{Once, OnceSeen, beside}
+use Rattle.record.specs.Reading.{ShownWrite}
+use Rattle.station.specs.Told.{ToldAnswer}
+use Rattle.station.specs.Runs.{RunTold}
+use Rattle.station.proofs.asking.cattlecleat_open.Reads as opens
+use Rattle.station.proofs.asking.cattlecleat_ask.Reads as asks
+use Rattle.station.proofs.asking.cattlecleat_sync_registers.Reads as syncs
+use Rattle.station.proofs.asking.cattlecleat_read_registers.Reads as registers
+use Rattle.station.proofs.parts.cattlecleat_host_part.Reads as part
+use Rattle.station.proofs.traces.cattlecleat_replay.Reads as replays
+use Rattle.station.proofs.traces.cattlecleat_read_record.Reads as reads
+use Rattle.station.proofs.traces.cattlecleat_write_record.Reads as writes
+use Rattle.station.proofs.leaves.cattlecleat_to_register.Reads as to-register
+use Rattle.station.proofs.leaves.cattlecleat_from_register.Reads as from-register
+use Rattle.station.proofs.leaves.cattlecleat_align.Reads as aligns
+use Rattle.station.proofs.slot.cattlecleat_done_with.Reads as fills
+use Rattle.station.proofs.slot.cattlecleat_take_done_reason.Reads as takes
+
+pub cattlecleat-open-settled : Once opens.Post
+cattlecleat-open-settled κ a r r′ e e′ p q = p ∙ sym q
+
+pub cattlecleat-ask-settled : OnceSeen asks.Post (λ κ r e. beside r (beside (now (e .1 .0)) (now (e .1 .1 .0))))
+cattlecleat-ask-settled κ a r r′ e e′ p q = ap (λ (t : ToldAnswer). beside (t .answer) (beside (t .words) (t .cells))) (p ∙ sym q)
+
+pub cattlecleat-sync-registers-settled : Once syncs.Post
+cattlecleat-sync-registers-settled κ a r r′ e e′ p q = ap (λ (t : ToldAnswer). t .answer) (p ∙ sym q)
+
+pub cattlecleat-read-registers-settled : Once registers.Post
+cattlecleat-read-registers-settled κ a r r′ e e′ p q = p ∙ sym q
+
+pub cattlecleat-host-part-settled : Once part.Post
+cattlecleat-host-part-settled κ a r r′ e e′ p q = p ∙ sym q
+
+pub cattlecleat-replay-settled : OnceSeen replays.Post (λ κ r e. beside r (beside (now (e .1 .0)) (now (e .1 .1 .0))))
+cattlecleat-replay-settled κ a r r′ e e′ p q = ap (λ (t : RunTold). beside (t .run) (beside (t .words) (t .cells))) (p ∙ sym q)
+
+pub cattlecleat-read-record-settled : Once reads.Post
+cattlecleat-read-record-settled κ a r r′ e e′ p q = p ∙ sym q
+
+pub cattlecleat-write-record-settled : OnceSeen writes.Post (λ κ r e. beside r (now (e .0)))
+cattlecleat-write-record-settled κ a r r′ e e′ p q = ap (λ (t : ShownWrite). beside (t .number) (t .bytes)) (p ∙ sym q)
+
+pub cattlecleat-to-register-settled : Once to-register.Post
+cattlecleat-to-register-settled κ a r r′ e e′ p q = p ∙ sym q
+
+pub cattlecleat-from-register-settled : Once from-register.Post
+cattlecleat-from-register-settled κ a r r′ e e′ p q = p ∙ sym q
+
+pub cattlecleat-align-settled : Once aligns.Post
+cattlecleat-align-settled κ a r r′ e e′ p q = p ∙ sym q
+
+pub cattlecleat-done-with-settled : Once fills.Post
+cattlecleat-done-with-settled κ a r r′ e e′ p q = p ∙ sym q
+
+pub cattlecleat-take-done-reason-settled : Once takes.Post
+cattlecleat-take-done-reason-settled κ a r r′ e e′ p q = p ∙ sym q

@@ -1,0 +1,63 @@
+-- What the numbers handed out say, from what the functions below promise. Assumes nothing.
+use mathlib.Core.Path.{_≡_, refl, sym, ap, _∙_}
+use mathlib.Core.List.{List}
+use Prim.Native.Nat.{ℕ}
+use Rattle.cells.specs.declared.host.HostFrame.{HostFrame}
+use Rattle.record.specs.declared.Written.{Written}
+use Rattle.record.specs.Reading.{ShownWrite, writeNumber, writtenNumber, shownWrite}
+use Rattle.rules.specs.declared.Asked.{Asked}
+use Rattle.rules.specs.declared.Asked.the-variants.{Traced}
+use Rattle.rules.specs.declared.State.{State}
+use Rattle.rules.specs.declared.Outcome.{Outcome}
+use Rattle.rules.specs.declared.Request.{Request}
+use Rattle.rules.specs.World.{worldOf}
+use Rattle.rules.specs.Answers.{After, noHost, hostValues, shownAnswer, shownOutcome}
+use Rattle.rules.specs.Rules.{answered}
+use Rattle.replay.specs.declared.run.Run.{Run}
+use Rattle.replay.specs.Running.{Running, answerTo, runningOf, replayed}
+use Rattle.request.specs.declared.Decoded.{Decoded}
+use Rattle.request.specs.declared.Decoded.the-variants.{Asks, Bad}
+use Rattle.request.specs.Walk.{requestWritten}
+use Rattle.station.specs.declared.answers.CAnswer.{CAnswer}
+use Rattle.station.specs.Told.{answerWith, answerTold, told, afterTold}
+use Rattle.station.specs.declared.traces.CRun.{CRun}
+use Rattle.station.specs.States.{stateTo}
+use Rattle.station.specs.Runs.{runTo, runTold, runningTold}
+use Rattle.station.specs.Records.{writtenBy}
+
+-- an outcome told is document 01's answer told
+pub outcome-is-told : (o : Outcome) (r : CAnswer) (ws cs : List ℕ) (a : After) → r ≡ answerTold (shownAnswer (o .answer)) (o .state) → shownOutcome o ws cs ≡ a
+    → told r ws cs ≡ afterTold a
+outcome-is-told o r ws cs a tells shows = ap (λ x. told x ws cs) tells ∙ ap afterTold shows
+
+-- of a state that the numbers say
+pub answer-at : (s t : State) → s ≡ t → (ws cs : List ℕ) (a : Asked) → answered (worldOf s ws cs) a ≡ answered (worldOf t ws cs) a
+answer-at s t same ws cs a = ap (λ x. answered (worldOf x ws cs) a) same
+
+-- of a request that the numbers say
+pub asked-at : (s t : State) → s ≡ t → (ws cs : List ℕ) (q : Request) (d e : Decoded) → d ≡ e → d ≡ Asks q
+    → answered (worldOf s ws cs) (Traced q) ≡ answerTo (worldOf t ws cs) e
+asked-at s t same ws cs q d e reads asks = answer-at s t same ws cs (Traced q) ∙ ap (answerTo (worldOf t ws cs)) (sym asks ∙ reads)
+
+-- numbers that say no request
+pub none-is-told : (r : CAnswer) (h : HostFrame) (s t : State) (ws cs : List ℕ) (d e : Decoded) → r ≡ answerWith 10 (hostValues 0 h) (stateTo s) → h ≡ noHost → s ≡ t
+    → d ≡ e → d ≡ Bad → told r ws cs ≡ afterTold (answerTo (worldOf t ws cs) e)
+none-is-told r h s t ws cs d e tells none same reads bad =
+    ap (λ x. told x ws cs) (tells ∙ rw (none, same) refl) ∙ ap (λ x. afterTold (answerTo (worldOf t ws cs) x)) (sym bad ∙ reads)
+
+-- a run told is a replay in its course told
+pub run-is-told : (r : CRun) (run : Run) (ws cs : List ℕ) (v : Running) → r ≡ runTo run → runningOf run ws cs ≡ v → runTold r ws cs ≡ runningTold v
+run-is-told r run ws cs v tells runs = ap (λ x. runTold x ws cs) tells ∙ ap runningTold runs
+
+pub replay-at : (run run′ : Run) → run ≡ run′ → (ws cs bytes : List ℕ) → replayed (runningOf run ws cs) bytes ≡ replayed (runningOf run′ ws cs) bytes
+replay-at run run′ same ws cs bytes = ap (λ x. replayed (runningOf x ws cs) bytes) same
+
+-- a record written, by its number
+pub written-is-told : (n : ℕ) (w : Written) (bytes : List ℕ) (t : ShownWrite) → n ≡ writtenNumber w → shownWrite w bytes ≡ t → writeNumber n bytes ≡ t
+written-is-told n w bytes t tells writes = ap (λ x. writeNumber x bytes) tells ∙ writes
+
+pub write-at : (bytes : List ℕ) (at : ℕ) (q : Request) (d e : Decoded) → d ≡ e → d ≡ Asks q → requestWritten bytes at q ≡ writtenBy bytes at e
+write-at bytes at q d e reads asks = ap (writtenBy bytes at) (sym asks ∙ reads)
+
+pub none-written : (bytes : List ℕ) (at : ℕ) (d e : Decoded) → d ≡ e → d ≡ Bad → writeNumber 10 bytes ≡ writtenBy bytes at e
+none-written bytes at d e reads bad = ap (writtenBy bytes at) (sym bad ∙ reads)

@@ -1,0 +1,16 @@
+-- `station::slot::cattlecleat_done_with` meets its contract. Assumes nothing.
+use borrow.Author.Needs.{needs}
+use Rattle.station.proofs.Slotted.{fill-is-told}
+use Rattle.station.proofs.slot.cattlecleat_done_with.Statement.{statement}
+use Rattle.station.proofs.slot.cattlecleat_done_with.Tie as tie
+
+pub cattlecleat-done-with-spec : {M : Type 1} → statement M
+cattlecleat-done-with-spec =
+    tie.close
+    (tie.spec
+    (λ c κs. search needs)
+    (λ c κs. search needs)
+    (λ c κs. search needs)
+    (λ c κs. search needs)
+    (λ c κs. search needs)
+    (λ c. rw (c .slot-to .ensures, c .before .fill-number .ensures) (fill-is-told _ _ _ _ _ (c .before .before .done-with .ensures) (c .before .before .before .before .slot-from .ensures) (c .before .before .before .reason-from .ensures))))

@@ -1,0 +1,48 @@
+-- What is handed out of an answer: its number, every value that some request hands back, and the state after it, as numbers.
+--     answerWith number values state    those
+--     answerTold t s, openingTold o       of what is shown, with the state; of an opening
+--     ToldAnswer, told r ws cs                an answer, with what both buffers hold: what a function promises
+--     afterTold a                       that of document 01's answer
+--     alignedTold a                     an aligned address
+use mathlib.Core.List.{List}
+use Prim.Native.Nat.{ℕ}
+use Rattle.regs.specs.Align.{ShownAligned}
+use Rattle.rules.specs.declared.State.{State}
+use Rattle.rules.specs.declared.Values.{Values}
+use Rattle.rules.specs.Answers.{Shown, After}
+use Rattle.rules.specs.Open.{Opened}
+use Rattle.station.specs.declared.state.CState.{CState}
+use Rattle.station.specs.declared.answers.CAnswer.{CAnswer}
+use Rattle.station.specs.declared.leaves.CAligned.{CAligned}
+use Rattle.station.specs.States.{stateTo}
+
+abbrev pub answerWith : (number : ℕ) → Values → CState → CAnswer
+answerWith number values state = record {
+  number = number;
+  offset = values .offset;
+  ip = values .ip;
+  instance = values .instance;
+  host = values .host;
+  regs = values .regs;
+  state = state;
+}
+
+abbrev pub answerTold : Shown → State → CAnswer
+answerTold t s = answerWith (t .number) (t .values) (stateTo s)
+
+abbrev pub openingTold : Opened → CAnswer
+openingTold o = answerTold (o .shown) (o .state)
+
+pub record ToldAnswer : Type 0 where
+  pub answer : CAnswer
+  pub words : List ℕ
+  pub cells : List ℕ
+
+abbrev pub told : CAnswer → (words cells : List ℕ) → ToldAnswer
+told r words cells = record { answer = r; words = words; cells = cells }
+
+abbrev pub afterTold : After → ToldAnswer
+afterTold a = told (answerTold (a .shown) (a .world .state)) (a .world .words) (a .world .cells)
+
+abbrev pub alignedTold : ShownAligned → CAligned
+alignedTold a = record { number = a .number; address = a .address }

@@ -1,0 +1,71 @@
+// An answer as numbers: document 01's number, every value that some request hands back, and the state after it.
+ghost use mathlib.Core.Path.{_≡_};
+ghost use Rattle.rules.specs.Answers.{hostValues, shownAnswer};
+ghost use Rattle.station.specs.States.{stateTo};
+ghost use Rattle.station.specs.Told.{answerWith, answerTold};
+use crate::state::CState;
+use crate::state::state_to;
+use cells::HostFrame;
+use regs::Registers;
+use rules::Answer;
+use rules::Outcome;
+use rules::State;
+use rules::Values;
+use stack::no_host;
+use stack::refusal_number;
+
+#[repr(C)]
+pub struct CAnswer {
+    pub number: u64,
+    pub offset: usize,
+    pub ip: u64,
+    pub instance: u64,
+    pub host: HostFrame,
+    pub regs: Registers,
+    pub state: CState,
+}
+
+pub(crate) fn outcome_told(out: Outcome) -> CAnswer
+    ensures { λ r. ⌜ r ≡ answerTold (shownAnswer (out .answer)) (out .state) ⌝ }
+{
+    let s = out.state;
+    let answer = out.answer;
+    match answer {
+        Answer::Refused(why) => host_told(refusal_number(why), no_host(), s),
+        Answer::Gone(host) => host_told(1, host, s),
+        Answer::Done(values) => values_told(0, values, s),
+    }
+}
+
+// No more than a number and a host frame.
+pub(crate) fn host_told(number: u64, host: HostFrame, s: State) -> CAnswer
+    ensures { λ r. ⌜ r ≡ answerWith number (hostValues 0 host) (stateTo s) ⌝ }
+{
+    values_told(
+        number,
+        Values {
+            offset: 0,
+            ip: 0,
+            instance: 0,
+            host,
+            regs: Registers::zeroed(),
+        },
+        s,
+    )
+}
+
+fn values_told(number: u64, values: Values, s: State) -> CAnswer
+    ensures { λ r. ⌜ r ≡ answerWith number values (stateTo s) ⌝ }
+{
+    let host = values.host;
+    let regs = values.regs;
+    CAnswer {
+        number,
+        offset: values.offset,
+        ip: values.ip,
+        instance: values.instance,
+        host,
+        regs,
+        state: state_to(s),
+    }
+}

@@ -1,0 +1,76 @@
+// Opening, the nine requests by one door, and the registers.
+ghost use mathlib.Core.Path.{_≡_};
+ghost use lib.ListN.{length};
+ghost use Rattle.rules.specs.declared.Asked.the-variants.{SyncRegs};
+ghost use Rattle.rules.specs.World.{worldOf};
+ghost use Rattle.rules.specs.Open.{stackOpened};
+ghost use Rattle.rules.specs.Rules.{answered};
+ghost use Rattle.replay.specs.Running.{answerTo};
+ghost use Rattle.station.specs.States.{stateFrom, registersIn};
+ghost use Rattle.station.specs.Requests.{requestFrom};
+ghost use Rattle.station.specs.Told.{openingTold, told, afterTold};
+use crate::answers::CAnswer;
+use crate::answers::host_told;
+use crate::answers::outcome_told;
+use crate::requests::CRequest;
+use crate::requests::request_from;
+use crate::state::CState;
+use crate::state::state_from;
+use ask::ask;
+use regs::Registers;
+use request::Decoded;
+use stack::no_host;
+use stack::open;
+use stack::sync_regs;
+
+// Opens a stack: the height limit in bytes, the depth limit in frames. 14, with a state of zeros.
+#[no_mangle]
+pub extern "C" fn cattlecleat_open(
+    bytes: usize,
+    depth: usize,
+    words: &[u64],
+    cells: &[u64],
+) -> CAnswer
+    ensures { λ r. ⌜ r ≡ openingTold (stackOpened bytes depth (length (now (words .entry))) (length (now (cells .entry)))) ⌝ }
+{
+    outcome_told(open(bytes, depth, words, cells))
+}
+
+// Asks for one of the nine requests. 10 where the kind is none of them.
+#[no_mangle]
+pub extern "C" fn cattlecleat_ask(
+    s: CState,
+    words: &mut [u64],
+    cells: &mut [u64],
+    q: CRequest,
+) -> CAnswer
+    ensures { λ r. ⌜ told r (now (words .exit)) (now (cells .exit))
+        ≡ afterTold (answerTo (worldOf (stateFrom s) (now (words .entry)) (now (cells .entry))) (requestFrom q)) ⌝ }
+{
+    match request_from(q) {
+        Decoded::Asks(asked) => outcome_told(ask(state_from(s), words, cells, asked)),
+        Decoded::Bad => host_told(10, no_host(), state_from(s)),
+    }
+}
+
+// Stores all three registers, bit for bit. Only 9 refuses it.
+#[no_mangle]
+pub extern "C" fn cattlecleat_sync_registers(
+    s: CState,
+    words: &[u64],
+    cells: &[u64],
+    regs: Registers,
+) -> CAnswer
+    ensures { λ r. ⌜ told r (now (words .entry)) (now (cells .entry))
+        ≡ afterTold (answered (worldOf (stateFrom s) (now (words .entry)) (now (cells .entry))) (SyncRegs regs)) ⌝ }
+{
+    outcome_told(sync_regs(state_from(s), words, cells, regs))
+}
+
+// The registers of a state, bit for bit.
+#[no_mangle]
+pub extern "C" fn cattlecleat_read_registers(s: CState) -> Registers
+    ensures { λ r. ⌜ r ≡ registersIn s ⌝ }
+{
+    s.regs
+}

@@ -1,0 +1,116 @@
+// A request as numbers: its kind in document 01, with a flag beside each number that may be missing.
+ghost use mathlib.Core.Path.{_≡_};
+ghost use Rattle.station.specs.Requests.{requestFrom, pushFrom, replaceFrom, hostFrom, returnHostFrom, requestTo};
+use given::given_if;
+use record::Record;
+use regs::to_bool;
+use request::Decoded;
+use rules::HostArgs;
+use rules::PushArgs;
+use rules::ReplaceArgs;
+use rules::Request;
+use rules::ReturnHostArgs;
+
+// What the kind does not use is not looked at.
+#[repr(C)]
+pub struct CRequest {
+    pub kind: u64,
+    pub head: u16,
+    pub params: u16,
+    pub locals: u16,
+    pub slots: u16,
+    pub results: u16,
+    pub ipflag: u64,
+    pub caller: u64,
+    pub callee: u64,
+    pub instanceflag: u64,
+    pub instance: u64,
+}
+
+// The request of a kind; none where the kind is none of the nine.
+pub(crate) fn request_from(q: CRequest) -> Decoded
+    ensures { λ r. ⌜ r ≡ requestFrom q ⌝ }
+{
+    let kind = q.kind;
+    match kind {
+        1 => Decoded::Asks(Request::Push(push_from(q))),
+        2 => Decoded::Asks(Request::Pop(q.instance)),
+        3 => Decoded::Asks(Request::Replace(replace_from(q))),
+        4 => Decoded::Asks(Request::Host(host_from(q))),
+        5 => Decoded::Asks(Request::ReturnHost(return_host_from(q))),
+        6 => Decoded::Asks(Request::Sync(q.caller)),
+        7 => Decoded::Asks(Request::Restore),
+        8 => Decoded::Asks(Request::Reset),
+        9 => Decoded::Asks(Request::Set(q.head, q.callee)),
+        _ => Decoded::Bad,
+    }
+}
+
+fn push_from(q: CRequest) -> PushArgs
+    ensures { λ r. ⌜ r ≡ pushFrom q ⌝ }
+{
+    PushArgs {
+        caller: given_if(to_bool(q.ipflag), q.caller),
+        callee: q.callee,
+        head: q.head,
+        params: q.params,
+        locals: q.locals,
+        slots: q.slots,
+        instance: given_if(to_bool(q.instanceflag), q.instance),
+    }
+}
+
+fn replace_from(q: CRequest) -> ReplaceArgs
+    ensures { λ r. ⌜ r ≡ replaceFrom q ⌝ }
+{
+    ReplaceArgs {
+        callee: q.callee,
+        head: q.head,
+        params: q.params,
+        locals: q.locals,
+        slots: q.slots,
+        instance: given_if(to_bool(q.instanceflag), q.instance),
+    }
+}
+
+fn host_from(q: CRequest) -> HostArgs
+    ensures { λ r. ⌜ r ≡ hostFrom q ⌝ }
+{
+    HostArgs {
+        caller: given_if(to_bool(q.ipflag), q.caller),
+        head: q.head,
+        params: q.params,
+        results: q.results,
+    }
+}
+
+fn return_host_from(q: CRequest) -> ReturnHostArgs
+    ensures { λ r. ⌜ r ≡ returnHostFrom q ⌝ }
+{
+    ReturnHostArgs {
+        head: q.head,
+        params: q.params,
+        results: q.results,
+        instance: q.instance,
+    }
+}
+
+// The request that a record says, its flags one by one.
+pub(crate) fn request_to(r: Record) -> CRequest
+    ensures { λ q. ⌜ q ≡ requestTo r ⌝ }
+{
+    let flags = r.flags as u64;
+    CRequest {
+        kind: r.kind as u64,
+        head: r.head,
+        params: r.params,
+        locals: r.locals,
+        slots: r.slots,
+        results: r.results,
+        ipflag: flags % 2,
+        caller: r.word1,
+        callee: r.word2,
+        instanceflag: flags / 2 % 2,
+        instance: r.word3,
+    }
+}

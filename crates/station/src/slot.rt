@@ -1,0 +1,124 @@
+// The done slot as numbers. A reason: 1 returned (offset), 2 host error, 3 out of fuel (amount needed), any other number is an error. A slot is a reason,
+// or 0: empty.
+ghost use mathlib.Core.Path.{_≡_};
+ghost use Rattle.done.specs.Done.{fillNumber, filled, takeNumber, takeReason, takeValue, taken};
+ghost use Rattle.station.specs.Slots.{reasonSaid, reasonTo, reasonWith, doneWith, slotSaid, slotTo, filledTold, takenTold};
+use done::DoneReason;
+use done::DoneSlot;
+use done::Fill;
+use done::Take;
+
+#[repr(C)]
+pub struct CReason {
+    pub kind: u64,
+    pub amount: u64,
+}
+
+#[repr(C)]
+pub struct CDone {
+    pub number: u64,
+    pub reason: CReason,
+    pub slot: CReason,
+}
+
+const NONE: CReason = CReason { kind: 0, amount: 0 };
+
+// Fills a slot. 12: the reason in it stays.
+#[no_mangle]
+pub extern "C" fn cattlecleat_done_with(slot: CReason, reason: CReason) -> CDone
+    ensures { λ r. ⌜ r ≡ filledTold (filled (slotSaid slot) (reasonSaid reason)) ⌝ }
+{
+    let after = slot_from(slot).done_with(reason_from(reason));
+    let answer = after.answer;
+    let left = after.slot;
+    CDone {
+        number: fill_number(answer),
+        reason: NONE,
+        slot: slot_to(left),
+    }
+}
+
+fn fill_number(answer: Fill) -> u64
+    ensures { λ r. ⌜ r ≡ fillNumber answer ⌝ }
+{
+    match answer {
+        Fill::Done => 0,
+        Fill::AlreadyFilled => 12,
+    }
+}
+
+// Takes the reason out of a slot. 13.
+#[no_mangle]
+pub extern "C" fn cattlecleat_take_done_reason(slot: CReason) -> CDone
+    ensures { λ r. ⌜ r ≡ takenTold (taken (slotSaid slot)) ⌝ }
+{
+    let after = slot_from(slot).take_done_reason();
+    let answer = after.answer;
+    let left = after.slot;
+    take_told(answer, slot_to(left))
+}
+
+fn take_told(answer: Take, slot: CReason) -> CDone
+    ensures { λ r. ⌜ r ≡ doneWith (takeNumber answer) (reasonWith (takeReason answer) (takeValue answer)) slot ⌝ }
+{
+    match answer {
+        Take::Took(reason) => CDone {
+            number: 0,
+            reason: reason_to(reason),
+            slot,
+        },
+        Take::NothingToTake => CDone {
+            number: 13,
+            reason: NONE,
+            slot,
+        },
+    }
+}
+
+fn reason_from(c: CReason) -> DoneReason
+    ensures { λ r. ⌜ r ≡ reasonSaid c ⌝ }
+{
+    let kind = c.kind;
+    match kind {
+        1 => DoneReason::Returned(c.amount),
+        2 => DoneReason::HostError,
+        3 => DoneReason::OutOfFuel(c.amount),
+        _ => DoneReason::Error,
+    }
+}
+
+fn reason_to(reason: DoneReason) -> CReason
+    ensures { λ r. ⌜ r ≡ reasonTo reason ⌝ }
+{
+    match reason {
+        DoneReason::Returned(offset) => CReason {
+            kind: 1,
+            amount: offset,
+        },
+        DoneReason::HostError => CReason { kind: 2, amount: 0 },
+        DoneReason::OutOfFuel(needed) => CReason {
+            kind: 3,
+            amount: needed,
+        },
+        DoneReason::Error => CReason { kind: 4, amount: 0 },
+    }
+}
+
+fn slot_from(c: CReason) -> DoneSlot
+    ensures { λ r. ⌜ r ≡ slotSaid c ⌝ }
+{
+    let kind = c.kind;
+    if kind == 0 {
+        return DoneSlot::empty();
+    }
+    DoneSlot::Holds(reason_from(c))
+}
+
+fn slot_to(slot: DoneSlot) -> CReason
+    ensures { λ r. ⌜ r ≡ slotTo slot ⌝ }
+{
+    match slot {
+        DoneSlot::Empty => NONE,
+        DoneSlot::Holds(reason) => reason_to(reason),
+    }
+}

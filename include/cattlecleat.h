@@ -1,0 +1,244 @@
+/* Cattlecleat: the C face of the proved call stack, in the archive libstation.a. For x86-64 with the System V calling convention only.
+ * C99, and C++ as well; beside the archive a program links the C library alone: cc program.c libstation.a
+ * The words and numbers are those of document 01, 'The rules and what will be built'.
+ *
+ * Asked of the caller, of each function alike, and nothing else:
+ *   - a pointer and its length tell the truth: so many uint64_t (or bytes) may be read there, and written where the pointer is not const;
+ *   - a pointer is aligned for its type, and never null, even for length 0;
+ *   - two buffers of one call do not overlap.
+ * Every state, request, number, byte and content of a buffer gets an answer. Nothing is kept between calls, and no memory is allocated.
+ *
+ * The state goes in by value and comes back with the answer. Frames lie in `words`, four words per frame, oldest first: ip, start, debt
+ * flag (0 or 1) and debt instance. In a struct, a flag of 0 reads as none whatever the number beside it, any other as given; one that comes
+ * back is 0 or 1, and a 0 stands beside a 0.
+ *
+ * Answer numbers. On 2 and above the state, the done slot and all buffers are unchanged, and every other number handed back is 0.
+ *    0  done
+ *    1  done, and the last frame is gone
+ *    2  push with frame count = D; or a needed length above M
+ *    3  needed length at most M but above L
+ *    4  no frame, for pop, replace, return-host, sync, restore, set; or push or host gives a caller ip without a frame
+ *    5  push or replace without params <= locals <= slots; push with slots 0 and head not 0
+ *    6  push without caller ip over a frame
+ *    7  parameters (or a set cell) lie beyond `len`
+ *    8  restore without current instance
+ *    9  lent lengths differ from the state's, a limit is broken, 4 D exceeds the frame words, count > D, `len` above L or M, or a frame
+ *       read has start > `len`, a flag above 1, or flag 0 with a nonzero instance
+ *   10  trace record that breaks the rules of its kind, or fewer than 40 bytes for it; a request of no kind
+ *   11  host frame with end above `len`, end below start, or end minus start not max(params, results)
+ *   12  done slot already filled
+ *   13  nothing to take
+ *   14  opening beyond the limits, or too few frame words
+ *   15  ip below base, or the aligned address above the largest uint64_t
+ * D is the depth limit, at most 65,536 frames; M the height limit, at most 8,388,608 bytes, kept in cells of 8 bytes; L the number of cells
+ * lent, at most 1,048,576.
+ */
+#ifndef CATTLECLEAT_H
+#define CATTLECLEAT_H
+
+#include <stddef.h>
+#include <stdint.h>
+
+#ifdef __cplusplus
+extern "C" {
+#endif
+
+/* The bytes of a trace record. */
+#define CATTLECLEAT_RECORD_BYTES 40
+
+/* The kinds of requests. */
+enum {
+    CATTLECLEAT_PUSH = 1,
+    CATTLECLEAT_POP = 2,
+    CATTLECLEAT_REPLACE = 3,
+    CATTLECLEAT_HOST = 4,
+    CATTLECLEAT_RETURN_HOST = 5,
+    CATTLECLEAT_SYNC = 6,
+    CATTLECLEAT_RESTORE = 7,
+    CATTLECLEAT_RESET = 8,
+    CATTLECLEAT_SET = 9
+};
+
+/* The types of numbers that a register converts from and to. */
+enum {
+    CATTLECLEAT_U8 = 1,
+    CATTLECLEAT_U16 = 2,
+    CATTLECLEAT_U32 = 3,
+    CATTLECLEAT_U64 = 4,
+    CATTLECLEAT_I8 = 5,
+    CATTLECLEAT_I16 = 6,
+    CATTLECLEAT_I32 = 7,
+    CATTLECLEAT_I64 = 8,
+    CATTLECLEAT_BOOL = 9
+};
+
+/* The reasons why an execution halted. A slot of kind 0 is empty; a kind above 3 reads as an error and comes back as 4. */
+enum {
+    CATTLECLEAT_RETURNED = 1,
+    CATTLECLEAT_HOST_ERROR = 2,
+    CATTLECLEAT_OUT_OF_FUEL = 3,
+    CATTLECLEAT_ERROR = 4
+};
+
+/* The three registers, kept bit for bit, NaNs too. */
+typedef struct cattlecleat_registers {
+    uint64_t ireg;
+    float freg32;
+    double freg64;
+} cattlecleat_registers;
+
+/* A host's frame: its cells from start up to, not including, end, and its counts. */
+typedef struct cattlecleat_host_frame {
+    size_t start;
+    size_t end;
+    uint16_t params;
+    uint16_t results;
+} cattlecleat_host_frame;
+
+/* What a stack knows of itself, beside its two lent buffers. */
+typedef struct cattlecleat_state {
+    size_t depth;          /* the depth limit D, in frames */
+    size_t height;         /* the height limit M, in cells */
+    size_t words;          /* how many frame words are lent */
+    size_t cells;          /* how many cells are lent, L */
+    size_t count;          /* how many frames there are */
+    size_t len;            /* how long the cells in use are */
+    uint64_t current_flag; /* whether there is a current instance */
+    uint64_t current;      /* the current instance */
+    cattlecleat_registers regs;
+} cattlecleat_state;
+
+/* A request by its kind. What the kind does not use is not looked at. */
+typedef struct cattlecleat_request {
+    uint64_t kind;          /* CATTLECLEAT_PUSH to CATTLECLEAT_SET */
+    uint16_t head;          /* from the top start to the callee's cells, the parameters, or the cell to set */
+    uint16_t params;        /* push, replace, host, return-host */
+    uint16_t locals;        /* push, replace: the parameters among them */
+    uint16_t slots;         /* push, replace: the locals among them */
+    uint16_t results;       /* host, return-host */
+    uint64_t caller_flag;   /* whether a caller ip is given: push, host */
+    uint64_t caller;        /* the caller ip; the ip of a sync */
+    uint64_t callee;        /* the callee ip: push, replace; the cell of a set */
+    uint64_t instance_flag; /* whether an instance is given: push, replace */
+    uint64_t instance;      /* the instance; for pop and return-host always given */
+} cattlecleat_request;
+
+/* An answer number, every number that some request hands back (0 where this one does not), and the state after it. */
+typedef struct cattlecleat_answer {
+    uint64_t number;
+    size_t offset;
+    uint64_t ip;                 /* pop, return-host, restore */
+    uint64_t instance;           /* pop, return-host, restore */
+    cattlecleat_host_frame host; /* host, return-host */
+    cattlecleat_registers regs;  /* restore */
+    cattlecleat_state state;
+} cattlecleat_answer;
+
+/* What a host is lent: two parts of the cells that begin at one offset. */
+typedef struct cattlecleat_part {
+    uint64_t number;
+    size_t offset;
+    size_t params;  /* cells that hold parameters */
+    size_t results; /* cells for results: all from host start to end */
+} cattlecleat_part;
+
+/* A replay in its course. To begin one: an opened state, the fuel, and 0 for the rest. */
+typedef struct cattlecleat_run {
+    cattlecleat_state state;
+    uint64_t number;    /* of the next record */
+    uint64_t fuel;      /* the fuel given */
+    uint64_t spent;     /* the sum of the costs so far */
+    uint64_t stop_flag; /* whether it has stopped */
+    uint64_t cost;      /* of the record that it stopped before */
+} cattlecleat_run;
+
+/* What was read at a place of a trace. */
+typedef struct cattlecleat_read {
+    uint64_t number;
+    cattlecleat_request request;
+} cattlecleat_read;
+
+/* An aligned address. */
+typedef struct cattlecleat_aligned {
+    uint64_t number;
+    uint64_t address;
+} cattlecleat_aligned;
+
+/* A reason, or a slot for at most one: the offset of a return, or the amount of fuel needed; 0 with the two errors. */
+typedef struct cattlecleat_reason {
+    uint64_t kind;
+    uint64_t amount;
+} cattlecleat_reason;
+
+/* The slot after a call on it, and the reason that was taken out of it. */
+typedef struct cattlecleat_done {
+    uint64_t number;
+    cattlecleat_reason reason;
+    cattlecleat_reason slot;
+} cattlecleat_done;
+
+/* Opens a stack without frame or instance, `len` and registers 0, touching no buffer. The height limit is given in bytes and divided by 8
+ * rounding down; the depth limit is in frames, and at least 4 words are lent for each. Answers 0; 14 with a state of zeros. */
+cattlecleat_answer cattlecleat_open(size_t bytes, size_t depth, const uint64_t *words, size_t words_len, const uint64_t *cells,
+                                    size_t cells_len);
+
+/* Asks for one of the nine requests; a kind that is none of them gives 10. What each answers, and its refusals in their order:
+ *   push         0: the callee's frame stands, offset its start.   9, 2 (depth), 4 or 6, 5, 2, 3
+ *   pop          0: ip, start (the offset) and instance of the frame below; 1: the last frame is gone, and all numbers are 0.   9, 4
+ *   replace      0: the callee has the frame, offset its start.   9, 4, 5, 2, 3, 7
+ *   host         0: the host frame; offset the top start.   9, 4, 2, 3
+ *   return-host  0 or 1 as pop, with the host frame.   9, 4, 7, 2, 3
+ *   sync         0: the ip is stored in the top frame, offset its start.   9, 4
+ *   restore      0: ip, start (the offset), current instance and registers.   9, 4, 8
+ *   reset        0: no frame, no instance, `len` and registers 0.   9
+ *   set          0: one cell is written at top start + head, offset that index.   9, 4, 7 */
+cattlecleat_answer cattlecleat_ask(cattlecleat_state s, uint64_t *words, size_t words_len, uint64_t *cells, size_t cells_len,
+                                   cattlecleat_request q);
+
+/* Stores all three registers. Answers 0; 9. */
+cattlecleat_answer cattlecleat_sync_registers(cattlecleat_state s, const uint64_t *words, size_t words_len, const uint64_t *cells,
+                                              size_t cells_len, cattlecleat_registers regs);
+
+/* The three registers of any state. */
+cattlecleat_registers cattlecleat_read_registers(cattlecleat_state s);
+
+/* Where a host's cells lie: `params` cells from `offset` on hold its parameters, and `results` cells from there on, up to the frame's end,
+ * take its results. A frame with both counts 0 gets the empty part. Answers 0; 9, 11. */
+cattlecleat_part cattlecleat_host_part(cattlecleat_state s, const uint64_t *words, size_t words_len, const uint64_t *cells,
+                                       size_t cells_len, cattlecleat_host_frame frame);
+
+/* Replays the records of a trace one after another, and stops before a record whose cost exceeds the fuel left. Each record is answered as
+ * by cattlecleat_ask, or with 10 where it breaks the rules; a tail of 1 to 39 bytes is such a record. It costs 1, plus cells zeroed or
+ * copied if accepted. A run that has stopped comes back as it went in. */
+cattlecleat_run cattlecleat_replay(cattlecleat_run run, uint64_t *words, size_t words_len, uint64_t *cells, size_t cells_len,
+                                   const uint8_t *trace, size_t trace_len);
+
+/* The request of the record that begins at `at`, which may lie anywhere, beyond the end too. Answers 0; 10 with a request of zeros. */
+cattlecleat_read cattlecleat_read_record(const uint8_t *bytes, size_t bytes_len, size_t at);
+
+/* Writes the record of a request at `at`. Answers 0; 10 where the kind is none of the nine or fewer than 40 bytes are left. */
+uint64_t cattlecleat_write_record(uint8_t *bytes, size_t bytes_len, size_t at, cattlecleat_request q);
+
+/* The register of a number of a type: the number's bits, zero-extended; of a bool 0 or 1. Bits beyond the type are not looked at, so that a
+ * signed one may be given with its sign: (uint64_t)-1 as CATTLECLEAT_I8 is 255. A type that is none of the nine is taken as
+ * CATTLECLEAT_U64. */
+uint64_t cattlecleat_to_register(uint64_t type, uint64_t number);
+
+/* The number of a register: its low bits, read as two's complement where the type is signed, and handed back with the sign in all 64 bits;
+ * for a bool, 1 if the register is nonzero. A type that is none of the nine is taken as CATTLECLEAT_U64. */
+uint64_t cattlecleat_from_register(uint64_t type, uint64_t reg);
+
+/* Base plus the distance of ip from it, rounded up to a multiple of 8. Answers 0; 15. */
+cattlecleat_aligned cattlecleat_align(uint64_t ip, uint64_t base);
+
+/* Fills the slot with a reason. Answers 0; 12, and the slot keeps the reason that it had. A reason of kind 0 is an error. */
+cattlecleat_done cattlecleat_done_with(cattlecleat_reason slot, cattlecleat_reason reason);
+
+/* Takes the reason out of the slot. Answers 0; 13. */
+cattlecleat_done cattlecleat_take_done_reason(cattlecleat_reason slot);
+
+#ifdef __cplusplus
+}
+#endif
+
+#endif

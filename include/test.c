@@ -1,0 +1,264 @@
+/* A test of the C face: document 01's example, some of its edge cases, and each function of the header, on the linked archive.
+ * Prints one line, `c: N checks, 0 failed`; the exit status is 1 where one failed. */
+#include "cattlecleat.h"
+
+#include <stdio.h>
+#include <string.h>
+
+#define DEPTH 64
+#define WORDS (4 * DEPTH)
+#define CELLS 4096
+#define RECORDS 5
+
+typedef struct world {
+    cattlecleat_state state;
+    uint64_t words[WORDS];
+    uint64_t cells[CELLS];
+} world;
+
+static world w;
+static unsigned checks, failed;
+
+static void check(int good, int line, const char *what) {
+    checks++;
+    if (good)
+        return;
+    failed++;
+    fprintf(stderr, "test.c:%d: not so: %s\n", line, what);
+}
+
+#define CHECK(good) check((good), __LINE__, #good)
+
+static const cattlecleat_request P = {.kind = CATTLECLEAT_PUSH, .callee = 100, .locals = 2, .slots = 4, .instance_flag = 1, .instance = 1};
+static const cattlecleat_request Q = {.kind = CATTLECLEAT_PUSH,
+                                      .head = 2,
+                                      .params = 1,
+                                      .locals = 2,
+                                      .slots = 3,
+                                      .caller_flag = 1,
+                                      .caller = 101,
+                                      .callee = 200,
+                                      .instance_flag = 1,
+                                      .instance = 2};
+static const cattlecleat_request POP_2 = {.kind = CATTLECLEAT_POP, .instance_flag = 1, .instance = 2};
+static const cattlecleat_request RESTORE = {.kind = CATTLECLEAT_RESTORE};
+static const cattlecleat_request RESET = {.kind = CATTLECLEAT_RESET};
+
+static void open_world(void) {
+    memset(&w, 0xAB, sizeof w);
+    cattlecleat_answer a = cattlecleat_open(32768, DEPTH, w.words, WORDS, w.cells, CELLS);
+    CHECK(a.number == 0);
+    w.state = a.state;
+}
+
+static cattlecleat_answer ask(cattlecleat_request q) {
+    cattlecleat_answer a = cattlecleat_ask(w.state, w.words, WORDS, w.cells, CELLS, q);
+    w.state = a.state;
+    return a;
+}
+
+static uint32_t bits32(float f) {
+    uint32_t bits;
+    memcpy(&bits, &f, sizeof bits);
+    return bits;
+}
+
+static uint64_t bits64(double f) {
+    uint64_t bits;
+    memcpy(&bits, &f, sizeof bits);
+    return bits;
+}
+
+static int same_regs(cattlecleat_registers a, cattlecleat_registers b) {
+    return a.ireg == b.ireg && bits32(a.freg32) == bits32(b.freg32) && bits64(a.freg64) == bits64(b.freg64);
+}
+
+/* Field by field: a struct's padding is nobody's. */
+static int same_state(cattlecleat_state a, cattlecleat_state b) {
+    return a.depth == b.depth && a.height == b.height && a.words == b.words && a.cells == b.cells && a.count == b.count && a.len == b.len
+        && a.current_flag == b.current_flag && a.current == b.current && same_regs(a.regs, b.regs);
+}
+
+static int same_request(cattlecleat_request a, cattlecleat_request b) {
+    return a.kind == b.kind && a.head == b.head && a.params == b.params && a.locals == b.locals && a.slots == b.slots
+        && a.results == b.results && a.caller_flag == b.caller_flag && a.caller == b.caller && a.callee == b.callee
+        && a.instance_flag == b.instance_flag && a.instance == b.instance;
+}
+
+static void check_line(cattlecleat_request q, uint64_t number, size_t offset, size_t depth, size_t len) {
+    cattlecleat_answer a = ask(q);
+    CHECK(a.number == number && a.offset == offset && a.state.count == depth && a.state.len == len);
+}
+
+/* The sizes that rust/cattlecleat has too. */
+static void check_sizes(void) {
+    CHECK(sizeof(cattlecleat_registers) == 24 && sizeof(cattlecleat_host_frame) == 24 && sizeof(cattlecleat_state) == 88);
+    CHECK(sizeof(cattlecleat_request) == 64 && sizeof(cattlecleat_answer) == 168 && sizeof(cattlecleat_part) == 32);
+    CHECK(sizeof(cattlecleat_run) == 128 && sizeof(cattlecleat_read) == 72 && sizeof(cattlecleat_aligned) == 16);
+    CHECK(sizeof(cattlecleat_reason) == 16 && sizeof(cattlecleat_done) == 40);
+}
+
+static void check_opening(void) {
+    const cattlecleat_state zeros = {0};
+    cattlecleat_answer a = cattlecleat_open(8388609, DEPTH, w.words, WORDS, w.cells, CELLS);
+    CHECK(a.number == 14 && same_state(a.state, zeros));
+    CHECK(cattlecleat_open(80, DEPTH, w.words, WORDS - 1, w.cells, CELLS).number == 14);
+    CHECK(cattlecleat_open(15, 0, w.words, 0, w.cells, 0).state.height == 1);
+}
+
+static void check_example(void) {
+    open_world();
+    check_line(P, 0, 0, 1, 4);
+    check_line(Q, 0, 2, 2, 5);
+    check_line(POP_2, 0, 0, 1, 5);
+    check_line(POP_2, 1, 0, 0, 5);
+    check_line(POP_2, 4, 0, 0, 5);
+}
+
+/* K2. */
+static void check_call_and_return(void) {
+    const uint64_t rows[8] = {101, 0, 0, 0, 200, 2, 1, 1};
+    open_world();
+    ask(P);
+    ask(Q);
+    CHECK(memcmp(w.words, rows, sizeof rows) == 0);
+    CHECK(w.cells[2] == 0xABABABABABABABAB && w.cells[3] == 0);
+    CHECK(w.state.current_flag == 1 && w.state.current == 2);
+    cattlecleat_answer a = ask(POP_2);
+    CHECK(a.number == 0 && a.ip == 101 && a.offset == 0 && a.instance == 1);
+    CHECK(w.state.current == 1 && w.state.len == 5);
+}
+
+static void check_refusal(cattlecleat_request q, uint64_t number) {
+    static world before;
+    memcpy(&before, &w, sizeof w);
+    cattlecleat_answer a = ask(q);
+    CHECK(a.number == number && a.offset == 0 && a.ip == 0 && a.instance == 0 && a.host.end == 0);
+    CHECK(same_state(w.state, before.state));
+    CHECK(memcmp(w.words, before.words, sizeof w.words) == 0 && memcmp(w.cells, before.cells, sizeof w.cells) == 0);
+}
+
+static void check_refusals(void) {
+    cattlecleat_request none = P, counts = Q, high = Q, far = {.kind = CATTLECLEAT_SET, .head = 4, .callee = 1};
+    none.kind = 10;
+    counts.params = 3;
+    high.slots = 4095;
+    open_world();
+    check_refusal(POP_2, 4);
+    ask(P);
+    check_refusal(P, 6);
+    check_refusal(counts, 5);
+    check_refusal(high, 2);
+    check_refusal(far, 7);
+    check_refusal(none, 10);
+    w.state.len = CELLS + 1;
+    check_refusal(RESET, 9);
+}
+
+static void check_records(void) {
+    const cattlecleat_request requests[RECORDS] = {P, Q, POP_2, POP_2, POP_2};
+    uint8_t trace[RECORDS * CATTLECLEAT_RECORD_BYTES], before[sizeof trace];
+    for (size_t n = 0; n < RECORDS; n++) {
+        CHECK(cattlecleat_write_record(trace, sizeof trace, n * CATTLECLEAT_RECORD_BYTES, requests[n]) == 0);
+        cattlecleat_read r = cattlecleat_read_record(trace, sizeof trace, n * CATTLECLEAT_RECORD_BYTES);
+        CHECK(r.number == 0 && same_request(r.request, requests[n]));
+    }
+    memcpy(before, trace, sizeof trace);
+    CHECK(cattlecleat_write_record(trace, sizeof trace, 161, P) == 10 && memcmp(trace, before, sizeof trace) == 0);
+    CHECK(cattlecleat_read_record(trace, sizeof trace, 161).number == 10);
+    CHECK(cattlecleat_read_record(trace, sizeof trace, SIZE_MAX).number == 10);
+
+    open_world();
+    cattlecleat_run run = {.state = w.state, .fuel = 1000000};
+    run = cattlecleat_replay(run, w.words, WORDS, w.cells, CELLS, trace, sizeof trace);
+    CHECK(run.spent == 8 && run.number == 5 && run.stop_flag == 0 && run.state.count == 0 && run.state.len == 5);
+    open_world();
+    cattlecleat_run poor = {.state = w.state, .fuel = 4};
+    poor = cattlecleat_replay(poor, w.words, WORDS, w.cells, CELLS, trace, sizeof trace);
+    CHECK(poor.spent == 3 && poor.number == 1 && poor.stop_flag == 1 && poor.cost == 2 && poor.state.count == 1);
+}
+
+/* K10, and its refusals. */
+static void check_align(void) {
+    CHECK(cattlecleat_align(1003, 1000).address == 1008 && cattlecleat_align(1008, 1000).address == 1008);
+    CHECK(cattlecleat_align(1009, 1000).address == 1016 && cattlecleat_align(1009, 1000).number == 0);
+    CHECK(cattlecleat_align(999, 1000).number == 15 && cattlecleat_align(999, 1000).address == 0);
+    CHECK(cattlecleat_align(UINT64_MAX, 8).number == 15 && cattlecleat_align(UINT64_MAX, 7).address == UINT64_MAX);
+}
+
+static void check_slot(void) {
+    const cattlecleat_reason empty = {0}, returned = {CATTLECLEAT_RETURNED, 7}, fuel = {CATTLECLEAT_OUT_OF_FUEL, 9};
+    CHECK(cattlecleat_take_done_reason(empty).number == 13);
+    cattlecleat_done d = cattlecleat_done_with(empty, returned);
+    CHECK(d.number == 0 && d.slot.kind == CATTLECLEAT_RETURNED && d.slot.amount == 7 && d.reason.kind == 0);
+    d = cattlecleat_done_with(d.slot, fuel);
+    CHECK(d.number == 12 && d.slot.kind == CATTLECLEAT_RETURNED && d.slot.amount == 7);
+    d = cattlecleat_take_done_reason(d.slot);
+    CHECK(d.number == 0 && d.reason.kind == CATTLECLEAT_RETURNED && d.reason.amount == 7 && d.slot.kind == 0);
+}
+
+static void check_conversions(void) {
+    const uint64_t minus_one = (uint64_t)-1;
+    CHECK(cattlecleat_to_register(CATTLECLEAT_I8, minus_one) == 255 && cattlecleat_to_register(CATTLECLEAT_I16, minus_one) == 65535);
+    CHECK(cattlecleat_to_register(CATTLECLEAT_I32, minus_one) == UINT32_MAX);
+    CHECK(cattlecleat_to_register(CATTLECLEAT_I64, minus_one) == minus_one && cattlecleat_to_register(10, minus_one) == minus_one);
+    CHECK((int64_t)cattlecleat_from_register(CATTLECLEAT_I8, 255) == -1 && cattlecleat_from_register(CATTLECLEAT_U8, 511) == 255);
+    CHECK((int64_t)cattlecleat_from_register(CATTLECLEAT_I16, 0x8000) == INT16_MIN);
+    CHECK((int64_t)cattlecleat_from_register(CATTLECLEAT_I32, 0x80000000) == INT32_MIN);
+    CHECK(cattlecleat_from_register(CATTLECLEAT_I8, 127) == 127 && cattlecleat_from_register(CATTLECLEAT_U16, 0x18000) == 0x8000);
+    CHECK(cattlecleat_to_register(CATTLECLEAT_BOOL, 256) == 1 && cattlecleat_from_register(CATTLECLEAT_BOOL, 0) == 0);
+}
+
+/* Signalling NaNs of both signs come back with their bits, and a reset leaves zeros. */
+static void check_registers(void) {
+    const uint32_t single = 0xFF800001;
+    const uint64_t twice = 0x7FF0000000000001;
+    const cattlecleat_registers zeros = {0};
+    cattlecleat_registers regs = {.ireg = 7};
+    memcpy(&regs.freg32, &single, sizeof single);
+    memcpy(&regs.freg64, &twice, sizeof twice);
+    open_world();
+    ask(P);
+    w.state = cattlecleat_sync_registers(w.state, w.words, WORDS, w.cells, CELLS, regs).state;
+    ask(Q);
+    ask(POP_2);
+    cattlecleat_answer a = ask(RESTORE);
+    CHECK(a.number == 0 && a.ip == 101 && a.offset == 0 && a.instance == 1 && same_regs(a.regs, regs));
+    CHECK(same_regs(cattlecleat_read_registers(w.state), regs));
+    CHECK(cattlecleat_sync_registers(w.state, w.words, WORDS - 1, w.cells, CELLS, zeros).number == 9);
+    CHECK(ask(RESET).number == 0 && same_regs(cattlecleat_read_registers(w.state), zeros));
+}
+
+static void check_host(void) {
+    const cattlecleat_request host = {.kind = CATTLECLEAT_HOST, .head = 3, .params = 1, .results = 3};
+    const cattlecleat_request tail = {.kind = CATTLECLEAT_RETURN_HOST, .head = 1, .params = 2, .results = 1, .instance = 9};
+    open_world();
+    ask(P);
+    cattlecleat_answer a = ask(host);
+    CHECK(a.number == 0 && a.host.start == 3 && a.host.end == 6 && a.host.params == 1 && a.host.results == 3 && a.state.len == 6);
+    cattlecleat_part part = cattlecleat_host_part(w.state, w.words, WORDS, w.cells, CELLS, a.host);
+    CHECK(part.number == 0 && part.offset == 3 && part.params == 1 && part.results == 3);
+    a.host.end = 7;
+    part = cattlecleat_host_part(w.state, w.words, WORDS, w.cells, CELLS, a.host);
+    CHECK(part.number == 11 && part.offset == 0 && part.params == 0 && part.results == 0);
+    w.cells[1] = 11;
+    w.cells[2] = 12;
+    a = ask(tail);
+    CHECK(a.number == 1 && a.host.start == 0 && a.host.end == 2 && w.cells[0] == 11 && w.cells[1] == 12);
+}
+
+int main(void) {
+    check_sizes();
+    check_opening();
+    check_example();
+    check_call_and_return();
+    check_refusals();
+    check_records();
+    check_align();
+    check_slot();
+    check_conversions();
+    check_registers();
+    check_host();
+    printf("c: %u checks, %u failed\n", checks, failed);
+    return failed != 0;
+}

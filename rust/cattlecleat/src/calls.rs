@@ -1,0 +1,224 @@
+//! One method per request of a stack, named as in the Rust module that this replaces, and what each hands back.
+use crate::raw::{self, HostFrame};
+use crate::{HostArgs, PushArgs, Refusal, Registers, ReplaceArgs, Request, ReturnHostArgs, Stack};
+
+/// Where a return leads.
+#[derive(Clone, Copy, Debug, PartialEq, Eq, Hash)]
+pub enum Popped {
+    /// Answer 1: the last frame is gone. The current instance stays as it was.
+    Last,
+    /// Answer 0: the frame below is the top one now.
+    Returned {
+        /// Where it goes on.
+        ip: u64,
+        /// Where its cells begin.
+        start: usize,
+        /// The debt of the frame that went, or else the instance that the request gave.
+        instance: u64,
+    },
+}
+
+/// A host's frame is prepared.
+#[derive(Clone, Copy, Debug, PartialEq, Eq)]
+pub struct HostCall {
+    /// The top start: where the caller's cells begin.
+    pub start: usize,
+    /// The host's frame, for [`Stack::host_params`] and [`Stack::host_results`].
+    pub frame: HostFrame,
+}
+
+/// A frame is gone, and a host's frame is prepared in its place.
+#[derive(Clone, Copy, Debug, PartialEq, Eq)]
+pub struct ReturnHostCall {
+    /// Where the return leads.
+    pub popped: Popped,
+    /// The host's frame, for [`Stack::host_params`] and [`Stack::host_results`]; zeros where it has neither parameters nor results.
+    pub frame: HostFrame,
+}
+
+/// What is needed to go on in the top frame.
+#[derive(Clone, Copy, Debug, PartialEq, Eq)]
+pub struct Restored {
+    /// Where it goes on.
+    pub ip: u64,
+    /// Where its cells begin.
+    pub start: usize,
+    /// The current instance.
+    pub instance: u64,
+    /// The registers, bit for bit.
+    pub regs: Registers,
+}
+
+/// Where an accepted return leads, by the archive's numbers.
+fn popped(answer: &raw::Answer) -> Popped {
+    match answer.number {
+        1 => Popped::Last,
+        _ => Popped::Returned {
+            ip: answer.ip,
+            start: answer.offset,
+            instance: answer.instance,
+        },
+    }
+}
+
+impl<W: AsRef<[u64]> + AsMut<[u64]>, C: AsRef<[u64]> + AsMut<[u64]>> Stack<W, C> {
+    /// Asks for a request in plain form, and hands back all its numbers. Where it is refused, nothing has changed.
+    #[inline]
+    pub fn ask(&mut self, request: impl Into<raw::Request>) -> Result<raw::Answer, Refusal> {
+        let answer = raw::ask(self.state, self.words.as_mut(), self.cells.as_mut(), request.into());
+        self.state = answer.state;
+        Refusal::check(answer.number).map(|()| answer)
+    }
+
+    /// Calls a function: the caller's ip is stored, the callee's frame begins at the top start plus the head, its locals behind the
+    /// parameters are zeroed, and a named instance becomes current. Hands back the callee's start.
+    ///
+    /// Refusals, in this order: 9, 2 (depth), 4 or 6, 5, 2, 3.
+    ///
+    /// ```
+    /// use cattlecleat::{Limits, PushArgs, Refusal, Stack};
+    ///
+    /// let mut stack = Stack::open(Limits { depth: 3, bytes: 80 }, vec![0; 12], vec![0; 10])?;
+    /// let first = PushArgs { callee: 100, locals: 2, slots: 4, instance: Some(1), ..PushArgs::default() };
+    /// assert_eq!(stack.push_frame(first), Ok(0));
+    /// let second = PushArgs { caller: Some(101), callee: 200, head: 4, slots: 7, ..PushArgs::default() };
+    /// assert_eq!(stack.push_frame(second), Err(Refusal::Overflow));
+    /// assert_eq!(stack.push_frame(PushArgs { slots: 6, ..second }), Ok(4));
+    /// # Ok::<(), Refusal>(())
+    /// ```
+    #[inline]
+    pub fn push_frame(&mut self, args: PushArgs) -> Result<usize, Refusal> {
+        self.ask(args).map(|answer| answer.offset)
+    }
+
+    /// Returns from the top frame: its debt, where it has one, becomes current again.
+    ///
+    /// Refusals, in this order: 9, 4.
+    ///
+    /// ```
+    /// # use cattlecleat::{Limits, Popped, PushArgs, Stack};
+    /// # let mut stack = Stack::open(Limits { depth: 3, bytes: 80 }, vec![0; 12], vec![0; 10])?;
+    /// stack.push_frame(PushArgs { callee: 100, slots: 4, instance: Some(1), ..PushArgs::default() })?;
+    /// stack.push_frame(PushArgs { caller: Some(101), callee: 200, head: 2, slots: 3, instance: Some(2), ..PushArgs::default() })?;
+    /// assert_eq!(stack.pop_frame(2), Ok(Popped::Returned { ip: 101, start: 0, instance: 1 }));
+    /// assert_eq!(stack.pop_frame(1), Ok(Popped::Last));
+    /// # Ok::<(), cattlecleat::Refusal>(())
+    /// ```
+    #[inline]
+    pub fn pop_frame(&mut self, instance: u64) -> Result<Popped, Refusal> {
+        self.ask(Request::Pop(instance)).map(|answer| popped(&answer))
+    }
+
+    /// Makes a tail call: the callee takes over the top frame, and its parameters are copied from the head to the frame's start. Hands back
+    /// that start.
+    ///
+    /// Refusals, in this order: 9, 4, 5, 2, 3, 7.
+    ///
+    /// ```
+    /// # use cattlecleat::{Limits, PushArgs, ReplaceArgs, Stack};
+    /// # let mut stack = Stack::open(Limits { depth: 3, bytes: 80 }, vec![0; 12], vec![0; 10])?;
+    /// stack.push_frame(PushArgs { callee: 100, slots: 4, ..PushArgs::default() })?;
+    /// stack.cells_mut().copy_from_slice(&[5, 6, 7, 8]);
+    /// stack.replace_frame(ReplaceArgs { callee: 200, head: 1, params: 2, locals: 3, slots: 4, ..ReplaceArgs::default() })?;
+    /// assert_eq!(stack.cells(), [6, 7, 0, 8]);
+    /// # Ok::<(), cattlecleat::Refusal>(())
+    /// ```
+    #[inline]
+    pub fn replace_frame(&mut self, args: ReplaceArgs) -> Result<usize, Refusal> {
+        self.ask(args).map(|answer| answer.offset)
+    }
+
+    /// Prepares the call of a host's function: a given ip is stored, and the cells reach to the end of the host's frame.
+    ///
+    /// Refusals, in this order: 9, 4, 2, 3.
+    #[inline]
+    pub fn prepare_host_frame(&mut self, args: HostArgs) -> Result<HostCall, Refusal> {
+        self.ask(args).map(|answer| HostCall {
+            start: answer.offset,
+            frame: answer.host,
+        })
+    }
+
+    /// Prepares the tail call of a host's function: a return as by [`pop_frame`](Self::pop_frame), and the parameters are copied from the
+    /// head to the start of the frame that goes.
+    ///
+    /// Refusals, in this order: 9, 4, 7, 2, 3.
+    ///
+    /// ```
+    /// # use cattlecleat::{Limits, Popped, PushArgs, ReturnHostArgs, Stack};
+    /// # let mut stack = Stack::open(Limits { depth: 3, bytes: 80 }, vec![0; 12], vec![0; 10])?;
+    /// stack.push_frame(PushArgs { callee: 100, slots: 4, ..PushArgs::default() })?;
+    /// stack.set(3, 9)?;
+    /// let call = stack.return_prepare_host_frame(ReturnHostArgs { head: 3, params: 1, results: 1, instance: 1 })?;
+    /// assert_eq!(call.popped, Popped::Last);
+    /// assert_eq!(stack.host_params(call.frame)?, [9]);
+    /// # Ok::<(), cattlecleat::Refusal>(())
+    /// ```
+    #[inline]
+    pub fn return_prepare_host_frame(&mut self, args: ReturnHostArgs) -> Result<ReturnHostCall, Refusal> {
+        self.ask(args).map(|answer| ReturnHostCall {
+            popped: popped(&answer),
+            frame: answer.host,
+        })
+    }
+
+    /// Stores an ip in the top frame, and hands back its start.
+    ///
+    /// Refusals, in this order: 9, 4.
+    #[inline]
+    pub fn sync_ip(&mut self, ip: u64) -> Result<usize, Refusal> {
+        self.ask(Request::Sync(ip)).map(|answer| answer.offset)
+    }
+
+    /// What is needed to go on in the top frame. Nothing changes.
+    ///
+    /// Refusals, in this order: 9, 4, 8.
+    ///
+    /// ```
+    /// # use cattlecleat::{Limits, PushArgs, Refusal, Registers, Stack};
+    /// # let mut stack = Stack::open(Limits { depth: 3, bytes: 80 }, vec![0; 12], vec![0; 10])?;
+    /// stack.push_frame(PushArgs { callee: 100, slots: 4, instance: Some(1), ..PushArgs::default() })?;
+    /// stack.sync_ip(104)?;
+    /// stack.sync_regs(Registers { ireg: 7, freg32: -0.0, freg64: 0.5 })?;
+    /// let top = stack.restore_frame()?;
+    /// assert_eq!((top.ip, top.start, top.instance), (104, 0, 1));
+    /// assert_eq!(top.regs, Registers { ireg: 7, freg32: -0.0, freg64: 0.5 });
+    /// # Ok::<(), Refusal>(())
+    /// ```
+    #[inline]
+    pub fn restore_frame(&mut self) -> Result<Restored, Refusal> {
+        let answer = self.ask(Request::Restore)?;
+        Ok(Restored {
+            ip: answer.ip,
+            start: answer.offset,
+            instance: answer.instance,
+            regs: answer.regs,
+        })
+    }
+
+    /// Empties the stack: no frame, no instance, `len` and registers 0. Words and cells stay. It is the way out of a broken frame.
+    ///
+    /// Refusal: 9.
+    #[inline]
+    pub fn reset(&mut self) -> Result<(), Refusal> {
+        self.ask(Request::Reset).map(|_| ())
+    }
+
+    /// Writes one cell at the top start plus the head, and hands back its index.
+    ///
+    /// Refusals, in this order: 9, 4, 7.
+    #[inline]
+    pub fn set(&mut self, head: u16, cell: u64) -> Result<usize, Refusal> {
+        self.ask(Request::Set(head, cell)).map(|answer| answer.offset)
+    }
+
+    /// Stores all three registers, bit for bit.
+    ///
+    /// Refusal: 9.
+    #[inline]
+    pub fn sync_regs(&mut self, regs: Registers) -> Result<(), Refusal> {
+        let answer = raw::sync_registers(self.state, self.words.as_ref(), self.cells.as_ref(), regs);
+        self.state = answer.state;
+        Refusal::check(answer.number)
+    }
+}

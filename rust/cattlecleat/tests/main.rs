@@ -1,0 +1,11 @@
+//! The safe API against document 01: its example and edge cases, refusals, broken states, NaNs, records and the leaves.
+mod broken;
+mod cases;
+mod example;
+mod hosts;
+mod layout;
+mod leaves;
+mod nans;
+mod records;
+mod unchanged;
+mod world;

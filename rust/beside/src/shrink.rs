@@ -1,6 +1,6 @@
 //! Makes a failing case as small as it finds: fewer steps, shorter traces, lower numbers.
 
-use crate::case::{Case, Row, Start};
+use crate::case::{Case, Row, Start, text};
 use crate::drive::Failure;
 use crate::party::Table;
 use std::panic;
@@ -17,8 +17,18 @@ const CELLS_SAID: usize = 3;
 /// By how much buffers and limits are lowered, long strides first.
 const STRIDES: [usize; 6] = [65_536, 4096, 256, 16, 4, 1];
 
+/// What differs, shrunk, with the case as `beside again` takes it.
+pub fn told(failure: Failure) -> String {
+    let small = shrunk(failure);
+    format!(
+        "{}\n`beside again` takes this on standard input:\n{}",
+        small.why,
+        text(&small.case.rows())
+    )
+}
+
 /// The smallest case found that still fails, with what differs in it.
-pub fn shrunk(failure: Failure) -> Failure {
+fn shrunk(failure: Failure) -> Failure {
     let hook = panic::take_hook();
     panic::set_hook(Box::new(|_| {}));
     let rows = failure.case.rows();

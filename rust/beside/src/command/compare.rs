@@ -2,9 +2,8 @@
 
 use super::Verdict;
 use crate::args::Options;
-use crate::case::text;
 use crate::drive::{self, Failure, Tally};
-use crate::shrink::shrunk;
+use crate::shrink::told;
 use std::time::Instant;
 
 const SEED: u64 = 1;
@@ -65,7 +64,5 @@ fn timed(name: &str, run: impl FnOnce() -> Result<(Tally, String), Failure>) -> 
 
 fn report(failure: Failure) {
     println!("different: {}", failure.why);
-    let small = shrunk(failure);
-    println!("shrunk to: {}", small.why);
-    println!("`beside again` takes this on standard input:\n{}", text(&small.case.rows()));
+    println!("shrunk to: {}", told(failure));
 }

@@ -1,8 +1,9 @@
 //! `beside gate`: what the merge gate runs, always the same. Its last line says how much was compared.
 
 use super::Verdict;
-use super::said::{ready, said, told};
+use super::said::{ready, said};
 use crate::drive::{self, Failure, Tally};
+use crate::shrink::told;
 use crate::{leaves, mission};
 
 const SEED: u64 = 8;

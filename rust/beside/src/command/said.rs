@@ -1,9 +1,6 @@
 //! What subcommands that only compare have in common: no arguments, one line at the end, and a difference told before it.
 
 use super::Verdict;
-use crate::case::text;
-use crate::drive::Failure;
-use crate::shrink::shrunk;
 use std::panic::{self, UnwindSafe};
 
 /// No arguments are given, and this build has the Rust's debug assertions and overflow checks, without which it has other ends.
@@ -23,14 +20,4 @@ pub fn said(compared: impl FnOnce() -> Result<String, String> + UnwindSafe) -> V
     let well = outcome.is_ok();
     println!("{}", outcome.unwrap_or_else(|why| format!("different: {why}")));
     Ok(well)
-}
-
-/// What differs, shrunk, with the case as `beside again` takes it.
-pub fn told(failure: Failure) -> String {
-    let small = shrunk(failure);
-    format!(
-        "{}\n`beside again` takes this on standard input:\n{}",
-        small.why,
-        text(&small.case.rows())
-    )
 }

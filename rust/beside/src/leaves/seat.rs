@@ -2,11 +2,11 @@
 
 use super::count::Count;
 use crate::case::{Start, Step};
-use crate::command::said::told;
 use crate::drive::Failure;
 use crate::party::Table;
 use crate::plain::Answer;
 use crate::reading::Reading;
+use crate::shrink::told;
 use std::fmt::Debug;
 
 pub struct Seat {

@@ -139,8 +139,12 @@ impl Party for Ours {
 
     fn differs(&self, reading: &Reading) -> Option<String> {
         let state = plain_state(&self.state);
-        if state != reading.state || plain_regs(&raw::read_registers(self.state)) != reading.state.regs {
+        if state != reading.state {
             return Some(format!("the state is {state:?}, not {:?}", reading.state));
+        }
+        let regs = plain_regs(&raw::read_registers(self.state));
+        if regs != reading.state.regs {
+            return Some(format!("the registers read are {regs:?}, not {:?}", reading.state.regs));
         }
         let words = first_difference("word", &self.words, &reading.words);
         words.or_else(|| first_difference("cell", &self.cells, &reading.cells))

@@ -1,4 +1,4 @@
-//! Ours, over the archive. Everything is compared: state, all words and all cells, dead ones too.
+//! Ours, over the archive. Everything is compared: the state in plain form (flags 0 or 1, 0 beside 0), all words and all cells, dead ones too.
 
 use super::convert::{flagged, plain_answer, plain_regs, plain_request, plain_state, raw_host, raw_regs, raw_request, raw_state};
 use super::{Opened, Party, Traced};
@@ -138,9 +138,9 @@ impl Party for Ours {
     }
 
     fn differs(&self, reading: &Reading) -> Option<String> {
-        let state = plain_state(&self.state);
-        if state != reading.state {
-            return Some(format!("the state is {state:?}, not {:?}", reading.state));
+        let wanted = raw_state(&reading.state, 0);
+        if self.state != wanted {
+            return Some(format!("the state is {:?}, not {wanted:?}", self.state));
         }
         let regs = plain_regs(&raw::read_registers(self.state));
         if regs != reading.state.regs {

@@ -5,7 +5,7 @@
 --     signedBits low half rest     low bits with the rest added from half their range on: how the code has a sign in all 64 bits
 use Prim.Native.Nat.{ℕ, _+_, _%_, _^_}
 use lib.Dec.{eqb, ltb}
-use lib.IntN.{ℤ, pos}
+use lib.IntN.{pos}
 use mir.Syntax.{Width, w8, w16, w32, w64}
 use Rattle.choice.specs.Choose.{choose}
 use Rattle.regs.specs.Convert.{zeroExtended, lowBits, signedLowBits, truthBit, truthOf}

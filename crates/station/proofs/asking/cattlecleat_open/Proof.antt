@@ -1,6 +1,6 @@
 -- `station::asking::cattlecleat_open` meets its contract. Assumes nothing.
 use borrow.Author.Needs.{needs}
-use mathlib.Core.Path.{sym, ap, _∙_}
+use mathlib.Core.Path.{ap, _∙_}
 use Rattle.station.specs.Told.{openingTold}
 use Rattle.station.proofs.asking.cattlecleat_open.Statement.{statement}
 use Rattle.station.proofs.asking.cattlecleat_open.Tie as tie

@@ -1,5 +1,4 @@
 -- `station::slot::reason_from` meets its contract. Assumes nothing.
-use borrow.Author.Needs.{needs}
 use borrow.Author.Tests.{ne-eqb}
 use Rattle.choice.specs.Choose.{choose}
 use Rattle.station.specs.Slots.{reasonSaid}

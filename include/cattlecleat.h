@@ -9,8 +9,8 @@
  * Every state, request, number, byte and content of a buffer gets an answer. Nothing is kept between calls, and no memory is allocated.
  *
  * The state goes in by value and comes back with the answer. Frames lie in `words`, four words per frame, oldest first: ip, start, debt
- * flag (0 or 1) and debt instance. In a struct, a flag of 0 reads as none whatever the number beside it, any other as given; one that comes
- * back is 0 or 1, and a 0 stands beside a 0.
+ * flag (0 or 1) and debt instance. In a struct, a flag of 0 reads as none whatever the number beside it, any other as given. A refusal
+ * hands state and slot back number for number as they came; else a flag that comes back is 0 or 1, and a 0 stands beside a 0.
  *
  * Answer numbers. On 2 and above the state, the done slot and all buffers are unchanged, and every other number handed back is 0.
  *    0  done
@@ -72,7 +72,7 @@ enum {
     CATTLECLEAT_BOOL = 9
 };
 
-/* The reasons why an execution halted. A slot of kind 0 is empty; a kind above 3 reads as an error and comes back as 4. */
+/* The reasons why an execution halted. A slot of kind 0 is empty; a kind above 3 reads as an error and is taken out as 4. */
 enum {
     CATTLECLEAT_RETURNED = 1,
     CATTLECLEAT_HOST_ERROR = 2,
@@ -209,7 +209,7 @@ cattlecleat_part cattlecleat_host_part(cattlecleat_state s, const uint64_t *word
 
 /* Replays the records of a trace one after another, and stops before a record whose cost exceeds the fuel left. Each record is answered as
  * by cattlecleat_ask, or with 10 where it breaks the rules; a tail of 1 to 39 bytes is such a record. It costs 1, plus cells zeroed or
- * copied if accepted. A run that has stopped comes back as it went in. */
+ * copied if accepted. A run that has stopped comes back as it went in, its flags as 0 or 1. */
 cattlecleat_run cattlecleat_replay(cattlecleat_run run, uint64_t *words, size_t words_len, uint64_t *cells, size_t cells_len,
                                    const uint8_t *trace, size_t trace_len);
 

@@ -151,6 +151,9 @@ static void check_refusals(void) {
     check_refusal(high, 2);
     check_refusal(far, 7);
     check_refusal(none, 10);
+    w.state.current_flag = 7; /* reads as given, and comes back as 7 */
+    check_refusal(far, 7);
+    check_refusal(none, 10);
     w.state.len = CELLS + 1;
     check_refusal(RESET, 9);
 }
@@ -193,6 +196,9 @@ static void check_slot(void) {
     CHECK(d.number == 0 && d.slot.kind == CATTLECLEAT_RETURNED && d.slot.amount == 7 && d.reason.kind == 0);
     d = cattlecleat_done_with(d.slot, fuel);
     CHECK(d.number == 12 && d.slot.kind == CATTLECLEAT_RETURNED && d.slot.amount == 7);
+    const cattlecleat_reason any = {7, 8}, beside = {0, 5};
+    CHECK(cattlecleat_done_with(any, fuel).slot.kind == 7 && cattlecleat_done_with(any, fuel).slot.amount == 8);
+    CHECK(cattlecleat_take_done_reason(beside).number == 13 && cattlecleat_take_done_reason(beside).slot.amount == 5);
     d = cattlecleat_take_done_reason(d.slot);
     CHECK(d.number == 0 && d.reason.kind == CATTLECLEAT_RETURNED && d.reason.amount == 7 && d.slot.kind == 0);
 }

@@ -1,10 +1,12 @@
 -- What is handed out and in again is the same: a state, a run, a request. Assumes nothing.
-use mathlib.Core.Path.{_≡_, refl}
+use mathlib.Core.Path.{_≡_, refl, ap, _∙_}
 use Prim.Native.Nat.{_+_, _/_, _%_}
 use Rattle.given.specs.declared.Given.{Given}
 use Rattle.given.specs.declared.Given.the-variants.{Absent, Value}
 use Rattle.given.specs.Given.{isGiven, givenNumber, givenIf}
+use Rattle.given.proofs.Flags.{given-again}
 use Rattle.regs.specs.Convert.{truthBit, truthOf}
+use Rattle.regs.proofs.Widths.{write-read-bool}
 use Rattle.choice.specs.Choose.{choose}
 use Rattle.rules.specs.declared.Request.the-variants.{Push, Pop, Replace, Host, ReturnHost, Sync, Restore, Reset, Set}
 use Rattle.request.specs.declared.Decoded.the-variants.{Asks}
@@ -14,8 +16,7 @@ use Rattle.station.specs.Requests.{requestFrom, RequestKept}
 use Rattle.station.specs.Runs.{RunKept}
 
 given-kept : (g : Given) → givenIf (truthOf (truthBit (isGiven g))) (givenNumber g) ≡ g
-given-kept Absent = refl
-given-kept (Value n) = refl
+given-kept g = ap (λ b. givenIf b (givenNumber g)) (write-read-bool (isGiven g)) ∙ given-again g
 
 pub state-kept : StateKept
 state-kept s = λ i. record {

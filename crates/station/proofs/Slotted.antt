@@ -6,13 +6,14 @@ use Rattle.done.specs.declared.DoneSlot.{DoneSlot}
 use Rattle.done.specs.declared.DoneSlot.the-variants.{Empty, Holds}
 use Rattle.done.specs.Done.{ShownFill, filled, ShownTake, taken}
 use Rattle.choice.specs.Choose.{choose}
+use Rattle.station.specs.declared.slot.CReason.{CReason}
 use Rattle.station.specs.Slots.{reasonSaid, slotSaid, filledTold, takenTold, SlotKept}
 
-pub fill-is-told : (f : ShownFill) (s t : DoneSlot) (r u : DoneReason) → f ≡ filled s r → s ≡ t → r ≡ u → filledTold f ≡ filledTold (filled t u)
-fill-is-told f s t r u fills same why = ap filledTold (fills ∙ ap (λ x. filled x r) same ∙ ap (filled t) why)
+pub fill-is-told : (c : CReason) (f : ShownFill) (s t : DoneSlot) (r u : DoneReason) → f ≡ filled s r → s ≡ t → r ≡ u → filledTold c f ≡ filledTold c (filled t u)
+fill-is-told c f s t r u fills same why = ap (filledTold c) (fills ∙ ap (λ x. filled x r) same ∙ ap (filled t) why)
 
-pub take-is-told : (d : ShownTake) (s t : DoneSlot) → d ≡ taken s → s ≡ t → takenTold d ≡ takenTold (taken t)
-take-is-told d s t takes same = ap takenTold (takes ∙ ap taken same)
+pub take-is-told : (c : CReason) (d : ShownTake) (s t : DoneSlot) → d ≡ taken s → s ≡ t → takenTold c d ≡ takenTold c (taken t)
+take-is-told c d s t takes same = ap (takenTold c) (takes ∙ ap taken same)
 
 pub slot-kept : SlotKept
 unfolding choose slotSaid reasonSaid

@@ -1,11 +1,14 @@
 -- What is handed out of an answer: its number, every value that some request hands back, and the state after it, as numbers.
 --     answerWith number values state    those
---     answerTold t s, openingTold o       of what is shown, with the state; of an opening
---     ToldAnswer, told r ws cs                an answer, with what both buffers hold: what a function promises
---     afterTold a                       that of document 01's answer
+--     stateAfter c number s             the numbers of the state after it; on a refusal those that came, c
+--     answerTold c t s, openingTold o   of what is shown, with the state; of an opening
+--     ToldAnswer, told r ws cs          an answer, with what both buffers hold: what a function promises
+--     afterTold c a                     that of document 01's answer
 --     alignedTold a                     an aligned address
 use mathlib.Core.List.{List}
 use Prim.Native.Nat.{ℕ}
+use lib.Dec.{leb}
+use Rattle.choice.specs.Choose.{choose}
 use Rattle.regs.specs.Align.{ShownAligned}
 use Rattle.rules.specs.declared.State.{State}
 use Rattle.rules.specs.declared.Values.{Values}
@@ -27,11 +30,15 @@ answerWith number values state = record {
   state = state;
 }
 
-abbrev pub answerTold : Shown → State → CAnswer
-answerTold t s = answerWith (t .number) (t .values) (stateTo s)
+abbrev pub stateAfter : CState → (number : ℕ) → State → CState
+stateAfter c number s = choose (leb 2 number) c (stateTo s)
 
+abbrev pub answerTold : CState → Shown → State → CAnswer
+answerTold c t s = answerWith (t .number) (t .values) (stateAfter c (t .number) s)
+
+-- a refused opening hands back a state of zeros
 abbrev pub openingTold : Opened → CAnswer
-openingTold o = answerTold (o .shown) (o .state)
+openingTold o = answerWith (o .shown .number) (o .shown .values) (stateTo (o .state))
 
 pub record ToldAnswer : Type 0 where
   pub answer : CAnswer
@@ -41,8 +48,8 @@ pub record ToldAnswer : Type 0 where
 abbrev pub told : CAnswer → (words cells : List ℕ) → ToldAnswer
 told r words cells = record { answer = r; words = words; cells = cells }
 
-abbrev pub afterTold : After → ToldAnswer
-afterTold a = told (answerTold (a .shown) (a .world .state)) (a .world .words) (a .world .cells)
+abbrev pub afterTold : CState → After → ToldAnswer
+afterTold c a = told (answerTold c (a .shown) (a .world .state)) (a .world .words) (a .world .cells)
 
 abbrev pub alignedTold : ShownAligned → CAligned
 alignedTold a = record { number = a .number; address = a .address }

@@ -1,7 +1,6 @@
 // An answer as numbers: document 01's number, every value that some request hands back, and the state after it.
 ghost use mathlib.Core.Path.{_≡_};
 ghost use Rattle.rules.specs.Answers.{hostValues, shownAnswer};
-ghost use Rattle.station.specs.States.{stateTo};
 ghost use Rattle.station.specs.Told.{answerWith, answerTold};
 use crate::state::CState;
 use crate::state::state_to;
@@ -9,7 +8,6 @@ use cells::HostFrame;
 use regs::Registers;
 use rules::Answer;
 use rules::Outcome;
-use rules::State;
 use rules::Values;
 use stack::no_host;
 use stack::refusal_number;
@@ -25,21 +23,22 @@ pub struct CAnswer {
     pub state: CState,
 }
 
-pub(crate) fn outcome_told(out: Outcome) -> CAnswer
-    ensures { λ r. ⌜ r ≡ answerTold (shownAnswer (out .answer)) (out .state) ⌝ }
+// A refusal hands the numbers of the state back as they came.
+pub(crate) fn outcome_told(out: Outcome, came: CState) -> CAnswer
+    ensures { λ r. ⌜ r ≡ answerTold came (shownAnswer (out .answer)) (out .state) ⌝ }
 {
     let s = out.state;
     let answer = out.answer;
     match answer {
-        Answer::Refused(why) => host_told(refusal_number(why), no_host(), s),
-        Answer::Gone(host) => host_told(1, host, s),
-        Answer::Done(values) => values_told(0, values, s),
+        Answer::Refused(why) => host_told(refusal_number(why), no_host(), came),
+        Answer::Gone(host) => host_told(1, host, state_to(s)),
+        Answer::Done(values) => values_told(0, values, state_to(s)),
     }
 }
 
 // No more than a number and a host frame.
-pub(crate) fn host_told(number: u64, host: HostFrame, s: State) -> CAnswer
-    ensures { λ r. ⌜ r ≡ answerWith number (hostValues 0 host) (stateTo s) ⌝ }
+pub(crate) fn host_told(number: u64, host: HostFrame, state: CState) -> CAnswer
+    ensures { λ r. ⌜ r ≡ answerWith number (hostValues 0 host) state ⌝ }
 {
     values_told(
         number,
@@ -50,12 +49,12 @@ pub(crate) fn host_told(number: u64, host: HostFrame, s: State) -> CAnswer
             host,
             regs: Registers::zeroed(),
         },
-        s,
+        state,
     )
 }
 
-fn values_told(number: u64, values: Values, s: State) -> CAnswer
-    ensures { λ r. ⌜ r ≡ answerWith number values (stateTo s) ⌝ }
+fn values_told(number: u64, values: Values, state: CState) -> CAnswer
+    ensures { λ r. ⌜ r ≡ answerWith number values state ⌝ }
 {
     let host = values.host;
     let regs = values.regs;
@@ -66,6 +65,6 @@ fn values_told(number: u64, values: Values, s: State) -> CAnswer
         instance: values.instance,
         host,
         regs,
-        state: state_to(s),
+        state,
     }
 }

@@ -16,6 +16,7 @@ use crate::requests::CRequest;
 use crate::requests::request_from;
 use crate::state::CState;
 use crate::state::state_from;
+use crate::state::state_to;
 use ask::ask;
 use regs::Registers;
 use request::Decoded;
@@ -33,7 +34,9 @@ pub extern "C" fn cattlecleat_open(
 ) -> CAnswer
     ensures { λ r. ⌜ r ≡ openingTold (stackOpened bytes depth (length (now (words .entry))) (length (now (cells .entry)))) ⌝ }
 {
-    outcome_told(open(bytes, depth, words, cells))
+    let out = open(bytes, depth, words, cells);
+    let s = out.state;
+    outcome_told(out, state_to(s))
 }
 
 // Asks for one of the nine requests. 10 where the kind is none of them.
@@ -45,11 +48,11 @@ pub extern "C" fn cattlecleat_ask(
     q: CRequest,
 ) -> CAnswer
     ensures { λ r. ⌜ told r (now (words .exit)) (now (cells .exit))
-        ≡ afterTold (answerTo (worldOf (stateFrom s) (now (words .entry)) (now (cells .entry))) (requestFrom q)) ⌝ }
+        ≡ afterTold s (answerTo (worldOf (stateFrom s) (now (words .entry)) (now (cells .entry))) (requestFrom q)) ⌝ }
 {
     match request_from(q) {
-        Decoded::Asks(asked) => outcome_told(ask(state_from(s), words, cells, asked)),
-        Decoded::Bad => host_told(10, no_host(), state_from(s)),
+        Decoded::Asks(asked) => outcome_told(ask(state_from(s), words, cells, asked), s),
+        Decoded::Bad => host_told(10, no_host(), s),
     }
 }
 
@@ -62,9 +65,9 @@ pub extern "C" fn cattlecleat_sync_registers(
     regs: Registers,
 ) -> CAnswer
     ensures { λ r. ⌜ told r (now (words .entry)) (now (cells .entry))
-        ≡ afterTold (answered (worldOf (stateFrom s) (now (words .entry)) (now (cells .entry))) (SyncRegs regs)) ⌝ }
+        ≡ afterTold s (answered (worldOf (stateFrom s) (now (words .entry)) (now (cells .entry))) (SyncRegs regs)) ⌝ }
 {
-    outcome_told(sync_regs(state_from(s), words, cells, regs))
+    outcome_told(sync_regs(state_from(s), words, cells, regs), s)
 }
 
 // The registers of a state, bit for bit.

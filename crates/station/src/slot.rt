@@ -2,7 +2,7 @@
 // or 0: empty.
 ghost use mathlib.Core.Path.{_≡_};
 ghost use Rattle.done.specs.Done.{fillNumber, filled, takeNumber, takeReason, takeValue, taken};
-ghost use Rattle.station.specs.Slots.{reasonSaid, reasonTo, reasonWith, doneWith, slotSaid, slotTo, filledTold, takenTold};
+ghost use Rattle.station.specs.Slots.{reasonSaid, reasonTo, reasonWith, doneWith, slotAfter, slotSaid, slotTo, filledTold, takenTold};
 use done::DoneReason;
 use done::DoneSlot;
 use done::Fill;
@@ -26,51 +26,56 @@ const NONE: CReason = CReason { kind: 0, amount: 0 };
 // Fills a slot. 12: the reason in it stays.
 #[no_mangle]
 pub extern "C" fn cattlecleat_done_with(slot: CReason, reason: CReason) -> CDone
-    ensures { λ r. ⌜ r ≡ filledTold (filled (slotSaid slot) (reasonSaid reason)) ⌝ }
+    ensures { λ r. ⌜ r ≡ filledTold slot (filled (slotSaid slot) (reasonSaid reason)) ⌝ }
 {
     let after = slot_from(slot).done_with(reason_from(reason));
     let answer = after.answer;
     let left = after.slot;
-    CDone {
-        number: fill_number(answer),
-        reason: NONE,
-        slot: slot_to(left),
-    }
+    fill_told(answer, slot_to(left), slot)
 }
 
-fn fill_number(answer: Fill) -> u64
-    ensures { λ r. ⌜ r ≡ fillNumber answer ⌝ }
+// A refusal hands the slot back as it came.
+fn fill_told(answer: Fill, left: CReason, came: CReason) -> CDone
+    ensures { λ r. ⌜ r ≡ doneWith (fillNumber answer) (reasonWith 0 0) (slotAfter came (fillNumber answer) left) ⌝ }
 {
     match answer {
-        Fill::Done => 0,
-        Fill::AlreadyFilled => 12,
+        Fill::Done => CDone {
+            number: 0,
+            reason: NONE,
+            slot: left,
+        },
+        Fill::AlreadyFilled => CDone {
+            number: 12,
+            reason: NONE,
+            slot: came,
+        },
     }
 }
 
 // Takes the reason out of a slot. 13.
 #[no_mangle]
 pub extern "C" fn cattlecleat_take_done_reason(slot: CReason) -> CDone
-    ensures { λ r. ⌜ r ≡ takenTold (taken (slotSaid slot)) ⌝ }
+    ensures { λ r. ⌜ r ≡ takenTold slot (taken (slotSaid slot)) ⌝ }
 {
     let after = slot_from(slot).take_done_reason();
     let answer = after.answer;
     let left = after.slot;
-    take_told(answer, slot_to(left))
+    take_told(answer, slot_to(left), slot)
 }
 
-fn take_told(answer: Take, slot: CReason) -> CDone
-    ensures { λ r. ⌜ r ≡ doneWith (takeNumber answer) (reasonWith (takeReason answer) (takeValue answer)) slot ⌝ }
+fn take_told(answer: Take, left: CReason, came: CReason) -> CDone
+    ensures { λ r. ⌜ r ≡ doneWith (takeNumber answer) (reasonWith (takeReason answer) (takeValue answer)) (slotAfter came (takeNumber answer) left) ⌝ }
 {
     match answer {
         Take::Took(reason) => CDone {
             number: 0,
             reason: reason_to(reason),
-            slot,
+            slot: left,
         },
         Take::NothingToTake => CDone {
             number: 13,
             reason: NONE,
-            slot,
+            slot: came,
         },
     }
 }

@@ -1,5 +1,5 @@
 // A state as numbers: a flag and a number stand for the current instance. A flag of 0 reads as none whatever the number beside it, any other as given;
-// handed back it is 0 or 1, and the number beside 0 is 0.
+// told again it is 0 or 1, and the number beside 0 is 0.
 ghost use mathlib.Core.Path.{_≡_};
 ghost use Rattle.station.specs.States.{stateFrom, stateTo};
 use given::given_if;

@@ -6,6 +6,7 @@ mod bench;
 mod case;
 mod command;
 mod drive;
+mod example;
 #[cfg(target_arch = "x86_64")]
 mod leaves;
 #[cfg(target_arch = "x86_64")]

@@ -109,7 +109,7 @@ pub struct Answer {
     pub host: HostFrame,
     /// The registers (restore).
     pub regs: Registers,
-    /// The state after the request.
+    /// The state after the request; on a refusal the one that came, number for number.
     pub state: State,
 }
 
@@ -169,7 +169,7 @@ pub struct Aligned {
 #[repr(C)]
 #[derive(Clone, Copy, Debug, Default, PartialEq, Eq)]
 pub struct Reason {
-    /// 1 returned (the offset), 2 host error, 3 out of fuel (the amount needed); any other is an error, handed back as 4.
+    /// 1 returned (the offset), 2 host error, 3 out of fuel (the amount needed); any other is an error, taken out as 4.
     pub kind: u64,
     /// The offset or the amount; handed back as 0 with the two errors.
     pub amount: u64,
@@ -183,7 +183,7 @@ pub struct Done {
     pub number: u64,
     /// The reason that was taken; zeros otherwise.
     pub reason: Reason,
-    /// The slot.
+    /// The slot; with 12 and 13 the one that came.
     pub slot: Reason,
 }
 

@@ -113,3 +113,12 @@ fn a_flag_of_a_state_reads_as_given_unless_it_is_0() {
     let mut absent = spoilt(|state, _| state.current_flag = 0);
     assert_eq!((absent.current(), absent.restore_frame()), (None, Err(Refusal::NoInstance)));
 }
+
+#[test]
+fn a_refusal_hands_the_state_back_number_for_number() {
+    for (flag, current) in [(7, 2), (0, 9)] {
+        let mut stack = spoilt(|state, _| (state.current_flag, state.current) = (flag, current));
+        let came = stack.state();
+        assert_eq!((stack.set(u16::MAX, 1), stack.state()), (Err(Refusal::BeyondLen), came));
+    }
+}

@@ -3,49 +3,15 @@
 use super::count::{Compared, Count};
 use super::seat::Seat;
 use crate::case::{Opening, Start, Step};
+use crate::example::{NOTHING, P, Q};
 use crate::plain::Request;
 use cattlecleat::raw;
 use oracle::leaves;
 
-const NONE: Request = Request {
-    kind: 0,
-    head: 0,
-    params: 0,
-    locals: 0,
-    slots: 0,
-    results: 0,
-    caller: None,
-    callee: 0,
-    instance: None,
-};
-
-/// The first push.
-pub const P: Request = Request {
-    kind: 1,
-    locals: 2,
-    slots: 4,
-    callee: 100,
-    instance: Some(1),
-    ..NONE
-};
-
-/// The second push.
-pub const Q: Request = Request {
-    kind: 1,
-    head: 2,
-    params: 1,
-    locals: 2,
-    slots: 3,
-    caller: Some(101),
-    callee: 200,
-    instance: Some(2),
-    ..NONE
-};
-
 const POP: Request = Request {
     kind: 2,
     instance: Some(2),
-    ..NONE
+    ..NOTHING
 };
 
 /// The sizes of document 01's cases.
@@ -64,7 +30,7 @@ fn push(head: u16, slots: u16) -> Request {
         head,
         slots,
         caller,
-        ..NONE
+        ..NOTHING
     }
 }
 
@@ -76,7 +42,7 @@ fn replace(head: u16, params: u16, slots: u16, instance: Option<u64>) -> Request
         locals: 2,
         slots,
         instance,
-        ..NONE
+        ..NOTHING
     }
 }
 
@@ -171,7 +137,7 @@ fn k6() -> Compared {
         kind: 9,
         head: 1,
         callee: 9,
-        ..NONE
+        ..NOTHING
     };
     let mut seat = after(OPENING, &[(P, 0), (Q, 0), (set, 0), (replace(1, 1, 3, Some(1)), 0)])?;
     let now = seat.now();

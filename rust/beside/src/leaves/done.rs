@@ -92,13 +92,21 @@ fn any_slots(count: &mut Count) -> Result<(), String> {
     for (slot, reason) in given.iter().flat_map(|slot| given.iter().map(move |reason| (*slot, *reason))) {
         let plain = Some(slot).filter(|slot| slot.kind != 0).map(plain_reason);
         let mut after = plain;
-        let wanted = answer(filled(&mut after, plain_reason(reason)), after);
+        let wanted = refused_as(slot, answer(filled(&mut after, plain_reason(reason)), after));
         count.same(raw::done_with(slot, reason), wanted, || format!("{reason:?} into {slot:?}"))?;
         let mut after = plain;
-        let wanted = answer(taken(&mut after), after);
+        let wanted = refused_as(slot, answer(taken(&mut after), after));
         count.same(raw::take_done_reason(slot), wanted, || format!("out of {slot:?}"))?;
     }
     Ok(())
+}
+
+/// A refusal hands the slot back as it came.
+fn refused_as(came: raw::Reason, wanted: raw::Done) -> raw::Done {
+    match wanted.number {
+        0 => wanted,
+        _ => raw::Done { slot: came, ..wanted },
+    }
 }
 
 /// What is none of the first three is an error.

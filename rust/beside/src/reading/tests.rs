@@ -1,38 +1,8 @@
 //! The reading on document 01's own examples: K1 to K9 and the listing.
 
 use super::{Reading, replay, write_record};
+use crate::example::{NOTHING, P, Q};
 use crate::plain::{Answer, HostFrame, Replay, Request};
-
-const P: Request = Request {
-    kind: 1,
-    locals: 2,
-    slots: 4,
-    callee: 100,
-    instance: Some(1),
-    ..NOTHING
-};
-const Q: Request = Request {
-    kind: 1,
-    head: 2,
-    params: 1,
-    locals: 2,
-    slots: 3,
-    caller: Some(101),
-    callee: 200,
-    instance: Some(2),
-    ..NOTHING
-};
-const NOTHING: Request = Request {
-    kind: 0,
-    head: 0,
-    params: 0,
-    locals: 0,
-    slots: 0,
-    results: 0,
-    caller: None,
-    callee: 0,
-    instance: None,
-};
 
 /// The document's world, M 80 bytes and D 3, with so many cells lent, after some requests; and the last answer.
 fn after(cells: usize, requests: &[Request]) -> (Reading, Answer) {

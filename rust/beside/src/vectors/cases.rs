@@ -1,6 +1,7 @@
 //! K1 to K9, each in its own opening. K10 is an alignment, which is no request.
 
 use super::maker::{Made, Maker};
+use crate::example::{P, Q};
 use crate::plain::{HostFrame, Request};
 
 /// M 80 bytes, L 10, D 3.
@@ -18,16 +19,6 @@ fn push(caller: Option<u64>, callee: u64, [head, params, locals, slots]: [u16; 4
         instance,
         ..Request::default()
     }
-}
-
-/// The first push of document 01's example.
-fn p() -> Request {
-    push(None, 100, [0, 0, 2, 4], Some(1))
-}
-
-/// The second one.
-fn q() -> Request {
-    push(Some(101), 200, [2, 1, 2, 3], Some(2))
 }
 
 /// A push without instance that has so many slots.
@@ -84,22 +75,22 @@ fn restore() -> Request {
 
 /// Each case: its opening, and what is asked in it.
 fn cases() -> Vec<([u64; 4], Vec<Request>)> {
-    let example = vec![p(), q(), pop(), pop(), pop()];
+    let example = vec![P, Q, pop(), pop(), pop()];
     let with = |cells: u64| [80, 3, 12, cells];
     vec![
         (WORLD, example),
         ([15, 3, 12, 10], vec![first(2), first(1), over(1, 1), over(0, 1)]),
-        (WORLD, vec![p(), q(), restore(), pop(), restore()]),
-        (WORLD, vec![p(), over(4, 7), over(4, 6), restore()]),
-        (with(8), vec![p(), over(4, 6), over(4, 4)]),
-        (WORLD, vec![p(), over(0, 0), restore()]),
+        (WORLD, vec![P, Q, restore(), pop(), restore()]),
+        (WORLD, vec![P, over(4, 7), over(4, 6), restore()]),
+        (with(8), vec![P, over(4, 6), over(4, 4)]),
+        (WORLD, vec![P, over(0, 0), restore()]),
         (
             WORLD,
-            vec![p(), q(), set(1, 9), replace([1, 1, 2, 3], Some(1)), restore(), pop(), restore()],
+            vec![P, Q, set(1, 9), replace([1, 1, 2, 3], Some(1)), restore(), pop(), restore()],
         ),
-        (WORLD, vec![p(), replace([0, 0, 0, 0], Some(2)), pop(), p(), restore()]),
-        (WORLD, vec![p(), replace([3, 2, 2, 4], None), replace([3, 2, 2, 5], None)]),
-        (WORLD, vec![p(), q(), return_host(4, 0, 1), return_host(3, 0, 1), restore()]),
+        (WORLD, vec![P, replace([0, 0, 0, 0], Some(2)), pop(), P, restore()]),
+        (WORLD, vec![P, replace([3, 2, 2, 4], None), replace([3, 2, 2, 5], None)]),
+        (WORLD, vec![P, Q, return_host(4, 0, 1), return_host(3, 0, 1), restore()]),
     ]
 }
 

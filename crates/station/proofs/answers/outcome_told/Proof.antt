@@ -1,6 +1,6 @@
--- `station::answers::outcome_told` meets its contract. Assumes nothing.
+-- `station::answers::outcome_told` meets its contract: by the case of the answer. Assumes nothing.
 use borrow.Author.Needs.{needs}
-use mathlib.Core.Path.{sym}
+use Rattle.station.proofs.Telling.{refusal-told, gone-told, done-told}
 use Rattle.station.proofs.answers.outcome_told.Statement.{statement}
 use Rattle.station.proofs.answers.outcome_told.Tie as tie
 
@@ -14,8 +14,10 @@ outcome-told-spec =
     (λ c κs. search needs)
     (λ c. search needs)
     (λ c κs. search needs)
+    (λ c κs. search needs)
     (λ c. search needs)
     (λ c κs. search needs)
-    (λ c. rw (c .before .before .before .before .answer .given .1, sym (c .before .no-host .ensures), sym (c .before .before .refusal-number .ensures)) (c .host-told .ensures))
-    (λ c. rw (c .before .before .answer2 .given .1) (c .host-told2 .ensures))
-    (λ c. rw (c .before .before .answer3 .given .1) (c .values-told .ensures)))
+    (λ c κs. search needs)
+    (λ c. refusal-told _ _ _ (c .before .before .before .before .before .before .before .args .out .state) _ _ _ (c .before .before .before .before .answer .given .1) (c .before .no-host .ensures) (c .before .before .refusal-number .ensures) (c .host-told .ensures))
+    (λ c. gone-told _ _ _ (c .before .before .before .before .before .before .args .out .state) _ _ (c .before .before .before .answer2 .given .1) (c .before .state-to .ensures) (c .host-told2 .ensures))
+    (λ c. done-told _ _ _ (c .before .before .before .before .before .before .args .out .state) _ _ (c .before .before .before .answer3 .given .1) (c .before .state-to2 .ensures) (c .values-told .ensures)))

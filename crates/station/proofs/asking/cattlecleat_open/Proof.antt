@@ -1,7 +1,6 @@
 -- `station::asking::cattlecleat_open` meets its contract. Assumes nothing.
 use borrow.Author.Needs.{needs}
-use mathlib.Core.Path.{ap, _∙_}
-use Rattle.station.specs.Told.{openingTold}
+use Rattle.station.proofs.Telling.{opening-is-told}
 use Rattle.station.proofs.asking.cattlecleat_open.Statement.{statement}
 use Rattle.station.proofs.asking.cattlecleat_open.Tie as tie
 
@@ -11,4 +10,5 @@ cattlecleat-open-spec =
     (tie.spec
     (λ c κs. search needs)
     (λ c κs. search needs)
-    (λ c. c .outcome-told .ensures ∙ ap openingTold (c .before .«open» .ensures)))
+    (λ c κs. search needs)
+    (λ c. opening-is-told (c .before .before .before .«open» .result) _ _ _ (c .before .state-to .ensures) (c .outcome-told .ensures) (c .before .before .before .«open» .ensures)))

@@ -1,5 +1,6 @@
 -- `station::slot::cattlecleat_done_with` meets its contract. Assumes nothing.
 use borrow.Author.Needs.{needs}
+use mathlib.Core.Path.{_∙_}
 use Rattle.station.proofs.Slotted.{fill-is-told}
 use Rattle.station.proofs.slot.cattlecleat_done_with.Statement.{statement}
 use Rattle.station.proofs.slot.cattlecleat_done_with.Tie as tie
@@ -13,4 +14,4 @@ cattlecleat-done-with-spec =
     (λ c κs. search needs)
     (λ c κs. search needs)
     (λ c κs. search needs)
-    (λ c. rw (c .slot-to .ensures, c .before .fill-number .ensures) (fill-is-told _ _ _ _ _ (c .before .before .done-with .ensures) (c .before .before .before .before .slot-from .ensures) (c .before .before .before .reason-from .ensures))))
+    (λ c. c .fill-told .ensures ∙ (rw (c .before .slot-to .ensures) (fill-is-told _ _ _ _ _ _ (c .before .before .done-with .ensures) (c .before .before .before .before .slot-from .ensures) (c .before .before .before .reason-from .ensures)))))

@@ -1,9 +1,11 @@
 -- `station::slot::take_told` meets its contract. Assumes nothing.
 use borrow.Author.Needs.{needs}
+use Rattle.choice.specs.Choose.{choose}
 use Rattle.station.proofs.slot.take_told.Statement.{statement}
 use Rattle.station.proofs.slot.take_told.Tie as tie
 
 pub take-told-spec : {M : Type 1} → statement M
+unfolding choose
 take-told-spec =
     tie.close
     (tie.spec

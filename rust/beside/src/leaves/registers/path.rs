@@ -1,7 +1,7 @@
 //! Requests of every kind, accepted and refused, each with the number that it gets: the way that registers go.
 
 use crate::case::Step;
-use crate::leaves::cases::{P, Q};
+use crate::example::{P, Q};
 use crate::plain::{HostFrame, Request};
 
 fn ask(request: Request) -> Step {

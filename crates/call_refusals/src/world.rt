@@ -1,9 +1,7 @@
 // The world that is asked: depth 3 over 16 lent words with three rows, and 10 lent cells. What a request says of it in numbers.
 use given::Given;
 use regs::Registers;
-use rules::Answer;
 use rules::Outcome;
-use rules::Refusal;
 use rules::State;
 use std::num::wrapping_add_u64;
 
@@ -50,8 +48,8 @@ pub fn told(s: State, out: Outcome, rows: [u64; 16], words: &[u64], cells: &[u64
     let new = fields(after);
     let buffers = wrapping_add_u64(unlike(&rows[..], words), unlike(&held[..], cells));
     Said {
-        number: number(answer),
-        offset: offset(answer),
+        number: stack::answer_number(answer),
+        offset: stack::answer_offset(answer) as u64,
         len: after.len as u64,
         changed: wrapping_add_u64(buffers, unlike(&old[..], &new[..])),
     }
@@ -88,36 +86,4 @@ fn unlike(a: &[u64], b: &[u64]) -> u64 {
         i += 1;
     }
     n
-}
-
-fn number(answer: Answer) -> u64 {
-    match answer {
-        Answer::Refused(why) => refusal(why),
-        Answer::Gone(_) => 1,
-        Answer::Done(_) => 0,
-    }
-}
-
-fn offset(answer: Answer) -> u64 {
-    match answer {
-        Answer::Refused(_) => 0,
-        Answer::Gone(_) => 0,
-        Answer::Done(v) => v.offset as u64,
-    }
-}
-
-// A refusal's number in document 01.
-fn refusal(why: Refusal) -> u64 {
-    match why {
-        Refusal::Overflow => 2,
-        Refusal::OutOfCells => 3,
-        Refusal::NoFrame => 4,
-        Refusal::BadCounts => 5,
-        Refusal::NoCallerIp => 6,
-        Refusal::BeyondLen => 7,
-        Refusal::NoInstance => 8,
-        Refusal::Broken => 9,
-        Refusal::BadHostFrame => 11,
-        Refusal::BadOpening => 14,
-    }
 }

@@ -3,13 +3,12 @@
 use crate::say;
 use rules::Answer;
 use rules::Outcome;
-use rules::Refusal;
 use rules::State;
 
 pub fn tell(out: Outcome) {
     let answer = out.answer;
     match answer {
-        Answer::Refused(why) => say::row(&[number(why), 0, 0, 0, 0, 0]),
+        Answer::Refused(why) => say::row(&[stack::refusal_number(why), 0, 0, 0, 0, 0]),
         Answer::Gone(host) => say::row(&[1, 0, 0, 0, host.start as u64, host.end as u64]),
         Answer::Done(v) => {
             let host = v.host;
@@ -38,20 +37,4 @@ fn tell_state(s: State) {
             given::given_number(current),
         ],
     );
-}
-
-// A refusal's number in document 01.
-fn number(why: Refusal) -> u64 {
-    match why {
-        Refusal::Overflow => 2,
-        Refusal::OutOfCells => 3,
-        Refusal::NoFrame => 4,
-        Refusal::BadCounts => 5,
-        Refusal::NoCallerIp => 6,
-        Refusal::BeyondLen => 7,
-        Refusal::NoInstance => 8,
-        Refusal::Broken => 9,
-        Refusal::BadHostFrame => 11,
-        Refusal::BadOpening => 14,
-    }
 }

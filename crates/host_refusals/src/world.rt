@@ -4,7 +4,6 @@ use given::Given;
 use regs::Registers;
 use rules::Answer;
 use rules::Outcome;
-use rules::Refusal;
 use rules::State;
 use std::num::wrapping_add_u64;
 
@@ -54,8 +53,8 @@ pub fn told(s: State, out: Outcome, rows: [u64; 16], words: &[u64], cells: &[u64
     let new = fields(after);
     let buffers = wrapping_add_u64(unlike(&rows[..], words), unlike(&held[..], cells));
     Said {
-        number: number(answer),
-        offset: offset(answer),
+        number: stack::answer_number(answer),
+        offset: stack::answer_offset(answer) as u64,
         start: host.start as u64,
         end: host.end as u64,
         len: after.len as u64,
@@ -96,48 +95,11 @@ fn unlike(a: &[u64], b: &[u64]) -> u64 {
     n
 }
 
-fn number(answer: Answer) -> u64 {
-    match answer {
-        Answer::Refused(why) => refusal(why),
-        Answer::Gone(_) => 1,
-        Answer::Done(_) => 0,
-    }
-}
-
-fn offset(answer: Answer) -> u64 {
-    match answer {
-        Answer::Refused(_) => 0,
-        Answer::Gone(_) => 0,
-        Answer::Done(v) => v.offset as u64,
-    }
-}
-
 // The host frame that is handed back, zeros where there is none.
 fn host_of(answer: Answer) -> HostFrame {
     match answer {
-        Answer::Refused(_) => HostFrame {
-            start: 0,
-            end: 0,
-            params: 0,
-            results: 0,
-        },
+        Answer::Refused(_) => stack::no_host(),
         Answer::Gone(host) => host,
         Answer::Done(v) => v.host,
-    }
-}
-
-// A refusal's number in document 01.
-fn refusal(why: Refusal) -> u64 {
-    match why {
-        Refusal::Overflow => 2,
-        Refusal::OutOfCells => 3,
-        Refusal::NoFrame => 4,
-        Refusal::BadCounts => 5,
-        Refusal::NoCallerIp => 6,
-        Refusal::BeyondLen => 7,
-        Refusal::NoInstance => 8,
-        Refusal::Broken => 9,
-        Refusal::BadHostFrame => 11,
-        Refusal::BadOpening => 14,
     }
 }

@@ -5,8 +5,6 @@ use crate::say;
 use cells::HostFrame;
 use given::Given;
 use regs::Registers;
-use rules::Answer;
-use rules::Refusal;
 use rules::State;
 
 const CELLS: [u64; 10] = [1, 2, 3, 4, 5, 0xffff_ffff_ffff_ffff, 7, 8, 9, 10];
@@ -48,7 +46,15 @@ fn show(lent: usize, start: usize, end: usize, params: u16, results: u16) {
     let room = write(stack_hosts::host_results(s, &words[..], &mut cells[..], frame));
     let answer = part.answer;
     let answered = call.answer;
-    say::row(&[number(answer), number(answered), read.len, read.first, room]);
+    say::row(
+        &[
+            stack::answer_number(answer),
+            stack::answer_number(answered),
+            read.len,
+            read.first,
+            room,
+        ],
+    );
     say::row(&cells[..]);
     say::row(&called[..]);
 }
@@ -84,28 +90,4 @@ fn write(part: &mut [u64]) -> u64 {
     }
     part[0] = 50;
     n as u64
-}
-
-// A host part is answered 0, 9 or 11.
-fn number(answer: Answer) -> u64 {
-    match answer {
-        Answer::Refused(why) => refusal(why),
-        Answer::Gone(_) => 1,
-        Answer::Done(_) => 0,
-    }
-}
-
-fn refusal(why: Refusal) -> u64 {
-    match why {
-        Refusal::Overflow => 2,
-        Refusal::OutOfCells => 3,
-        Refusal::NoFrame => 4,
-        Refusal::BadCounts => 5,
-        Refusal::NoCallerIp => 6,
-        Refusal::BeyondLen => 7,
-        Refusal::NoInstance => 8,
-        Refusal::Broken => 9,
-        Refusal::BadHostFrame => 11,
-        Refusal::BadOpening => 14,
-    }
 }

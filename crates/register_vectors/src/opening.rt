@@ -72,7 +72,7 @@ fn opened(out: Outcome) {
     let current = s.current;
     say::row(
         &[
-            tell::number(answer),
+            stack::answer_number(answer),
             s.depth as u64,
             s.height as u64,
             s.words as u64,

@@ -3,13 +3,12 @@ use crate::say;
 use regs::Registers;
 use rules::Answer;
 use rules::Outcome;
-use rules::Refusal;
 
 // A row with the answer's number, one with the registers that it hands back, and one with the state's.
 pub fn outcome(out: Outcome) {
     let answer = out.answer;
     let state = out.state;
-    say::row(&[number(answer)]);
+    say::row(&[stack::answer_number(answer)]);
     registers(handed(answer));
     registers(state.regs);
 }
@@ -37,29 +36,5 @@ fn handed(answer: Answer) -> Registers {
         Answer::Refused(_) => Registers::zeroed(),
         Answer::Gone(_) => Registers::zeroed(),
         Answer::Done(v) => v.regs,
-    }
-}
-
-pub fn number(answer: Answer) -> u64 {
-    match answer {
-        Answer::Refused(why) => refusal(why),
-        Answer::Gone(_) => 1,
-        Answer::Done(_) => 0,
-    }
-}
-
-// A refusal's number in document 01.
-fn refusal(why: Refusal) -> u64 {
-    match why {
-        Refusal::Overflow => 2,
-        Refusal::OutOfCells => 3,
-        Refusal::NoFrame => 4,
-        Refusal::BadCounts => 5,
-        Refusal::NoCallerIp => 6,
-        Refusal::BeyondLen => 7,
-        Refusal::NoInstance => 8,
-        Refusal::Broken => 9,
-        Refusal::BadHostFrame => 11,
-        Refusal::BadOpening => 14,
     }
 }

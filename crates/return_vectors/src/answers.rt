@@ -5,7 +5,6 @@ use crate::world::World;
 use cells::HostFrame;
 use rules::Answer;
 use rules::Outcome;
-use rules::Refusal;
 use rules::State;
 
 pub struct Seen {
@@ -24,7 +23,14 @@ pub fn seen_of(out: Outcome) -> Seen {
     let answer = out.answer;
     let state = out.state;
     match answer {
-        Answer::Refused(why) => with_state(number(why), 0, 0, 0, stack::no_host(), state),
+        Answer::Refused(why) => with_state(
+            stack::refusal_number(why),
+            0,
+            0,
+            0,
+            stack::no_host(),
+            state,
+        ),
         Answer::Gone(host) => with_state(1, 0, 0, 0, host, state),
         Answer::Done(v) => with_state(0, v.offset as u64, v.ip, v.instance, v.host, state),
     }
@@ -42,22 +48,6 @@ fn with_state(number: u64, offset: u64, ip: u64, instance: u64, host: HostFrame,
         len: s.len as u64,
         flag: given::is_given(current) as u64,
         current: given::given_number(current),
-    }
-}
-
-// A refusal's number in document 01.
-fn number(why: Refusal) -> u64 {
-    match why {
-        Refusal::Overflow => 2,
-        Refusal::OutOfCells => 3,
-        Refusal::NoFrame => 4,
-        Refusal::BadCounts => 5,
-        Refusal::NoCallerIp => 6,
-        Refusal::BeyondLen => 7,
-        Refusal::NoInstance => 8,
-        Refusal::Broken => 9,
-        Refusal::BadHostFrame => 11,
-        Refusal::BadOpening => 14,
     }
 }
 

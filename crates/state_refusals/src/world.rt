@@ -3,7 +3,6 @@ use given::Given;
 use regs::Registers;
 use rules::Answer;
 use rules::Outcome;
-use rules::Refusal;
 use rules::State;
 use std::num::wrapping_add_u64;
 
@@ -96,7 +95,7 @@ fn unlike(a: &[u64], b: &[u64]) -> u64 {
 fn answered(answer: Answer) -> Said {
     match answer {
         Answer::Refused(why) => Said {
-            number: refusal(why),
+            number: stack::refusal_number(why),
             offset: 0,
             ip: 0,
             instance: 0,
@@ -119,21 +118,5 @@ fn answered(answer: Answer) -> Said {
             len: 0,
             changed: 0,
         },
-    }
-}
-
-// A refusal's number in document 01.
-pub fn refusal(why: Refusal) -> u64 {
-    match why {
-        Refusal::Overflow => 2,
-        Refusal::OutOfCells => 3,
-        Refusal::NoFrame => 4,
-        Refusal::BadCounts => 5,
-        Refusal::NoCallerIp => 6,
-        Refusal::BeyondLen => 7,
-        Refusal::NoInstance => 8,
-        Refusal::Broken => 9,
-        Refusal::BadHostFrame => 11,
-        Refusal::BadOpening => 14,
     }
 }

@@ -4,6 +4,7 @@
  *
  * Asked of the caller, of each function alike, and nothing else:
  *   - a pointer and its length tell the truth: so many uint64_t (or bytes) may be read there, and written where the pointer is not const;
+ *     a pointer without a length is to one struct;
  *   - a pointer is aligned for its type, and never null, even for length 0;
  *   - two buffers of one call do not overlap.
  * Every state, request, number, byte and content of a buffer gets an answer. Nothing is kept between calls, and no memory is allocated.
@@ -201,6 +202,16 @@ cattlecleat_answer cattlecleat_sync_registers(cattlecleat_state s, const uint64_
 
 /* The three registers of any state. */
 cattlecleat_registers cattlecleat_read_registers(cattlecleat_state s);
+
+/* Registers in place, in the record that is lent, a state's `regs` among them. Each changes what it names, and keeps the rest bit for bit;
+ * none refuses. */
+void cattlecleat_put_ireg(cattlecleat_registers *r, uint64_t v);
+void cattlecleat_put_freg32(cattlecleat_registers *r, float v);
+void cattlecleat_put_freg64(cattlecleat_registers *r, double v);
+
+/* All three, and all three to zeros. */
+void cattlecleat_put_registers(cattlecleat_registers *r, uint64_t ireg, float freg32, double freg64);
+void cattlecleat_zero_registers(cattlecleat_registers *r);
 
 /* Where a host's cells lie: `params` cells from `offset` on hold its parameters, and `results` cells from there on, up to the frame's end,
  * take its results. A frame with both counts 0 gets the empty part. Answers 0; 9, 11. */

@@ -235,6 +235,61 @@ static void check_registers(void) {
     CHECK(ask(RESET).number == 0 && same_regs(cattlecleat_read_registers(w.state), zeros));
 }
 
+/* 0.0 and -0.0, and quiet and signalling NaNs of both signs, with payloads. */
+#define PATTERNS 6
+static const uint32_t SINGLES[PATTERNS] = {0, 0x80000000, 0x7FE12345, 0xFFC00000, 0x7F800001, 0xFFA5A5A5};
+static const uint64_t DOUBLES[PATTERNS]
+    = {0, 0x8000000000000000, 0x7FF8000000000000, 0xFFFC0123456789AB, 0x7FF5A5A5A5A5A5A5, 0xFFF0000000000001};
+
+static float single(size_t n) {
+    float f;
+    memcpy(&f, &SINGLES[n], sizeof f);
+    return f;
+}
+
+static double twice(size_t n) {
+    double f;
+    memcpy(&f, &DOUBLES[n], sizeof f);
+    return f;
+}
+
+static int has(const cattlecleat_registers *r, uint64_t ireg, size_t freg32, size_t freg64) {
+    return r->ireg == ireg && bits32(r->freg32) == SINGLES[freg32] && bits64(r->freg64) == DOUBLES[freg64];
+}
+
+/* Each function changes what it names in this record, and keeps the rest. */
+static void check_puts(cattlecleat_registers *r, size_t n) {
+    const uint64_t high = UINT64_MAX - n;
+    const size_t m = (n + 1) % PATTERNS;
+    cattlecleat_put_registers(r, high, single(n), twice(n));
+    CHECK(has(r, high, n, n));
+    cattlecleat_put_ireg(r, n);
+    CHECK(has(r, n, n, n));
+    cattlecleat_put_freg32(r, single(m));
+    CHECK(has(r, n, m, n));
+    cattlecleat_put_freg64(r, twice(m));
+    CHECK(has(r, n, m, m));
+    cattlecleat_zero_registers(r);
+    CHECK(has(r, 0, 0, 0));
+}
+
+/* In a record by itself, and in a state's, whose other numbers stay. */
+static void check_in_place(void) {
+    cattlecleat_registers alone;
+    memset(&alone, 0xAB, sizeof alone);
+    open_world();
+    ask(P);
+    cattlecleat_state before = w.state;
+    for (size_t n = 0; n < PATTERNS; n++) {
+        check_puts(&alone, n);
+        check_puts(&w.state.regs, n);
+        CHECK(same_state(w.state, before));
+    }
+    cattlecleat_put_freg32(&w.state.regs, single(5));
+    cattlecleat_answer a = ask(RESTORE);
+    CHECK(a.number == 0 && has(&a.regs, 0, 5, 0) && has(&w.state.regs, 0, 5, 0));
+}
+
 static void check_host(void) {
     const cattlecleat_request host = {.kind = CATTLECLEAT_HOST, .head = 3, .params = 1, .results = 3};
     const cattlecleat_request tail = {.kind = CATTLECLEAT_RETURN_HOST, .head = 1, .params = 2, .results = 1, .instance = 9};
@@ -264,6 +319,7 @@ int main(void) {
     check_slot();
     check_conversions();
     check_registers();
+    check_in_place();
     check_host();
     printf("c: %u checks, %u failed\n", checks, failed);
     return failed != 0;

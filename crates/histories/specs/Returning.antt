@@ -21,11 +21,11 @@ pub record CalledByPromise (w : World) (A : ℕ) (q : PushArgs) (call : After) (
   -- there is a caller's frame, and a current instance A
   pub has-caller : 0 < w .state .count
   pub has-instance : w .state .current ≡ Value A
-  -- `push_frame` is called, and accepts; then a chain in which the depth never falls below the callee's
+  -- `push_frame`, or `ask` with a push, is called, and accepts; then a chain in which the depth never falls below the callee's
   pub call-told : Told w (Traced (Push q)) call
   pub call-accepted : Accepted call
   pub between : Chain (call .world .state .count) (call .world) es v
-  -- `pop_frame` or `return_prepare_host_frame` is called, accepts, and takes the depth to the caller's
+  -- `pop_frame` or `return_prepare_host_frame`, or `ask` with one of the two, is called, accepts, and takes the depth to the caller's
   pub is-return : Gives r i
   pub return-told : Told v (Traced r) back
   pub return-accepted : Accepted back

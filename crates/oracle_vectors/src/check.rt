@@ -73,7 +73,7 @@ fn moving_differs(entry: &[u8], n: u64, s: CState) -> u64 {
     let regs = s.regs;
     let count = differs(entry, n, 21, s.count as u64);
     let len = differs(entry, n, 22, s.len as u64);
-    let flag = differs(entry, n, 23, s.flag);
+    let flag = differs(entry, n, 23, s.currentflag);
     let current = differs(entry, n, 24, s.current);
     let register = differs(entry, n, 25, regs.ireg);
     both(both(count, len), both(both(flag, current), register))

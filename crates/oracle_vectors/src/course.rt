@@ -20,7 +20,7 @@ pub fn fresh_course() -> Course {
             cells: 0,
             count: 0,
             len: 0,
-            flag: 0,
+            currentflag: 0,
             current: 0,
             regs: Registers::zeroed(),
         },

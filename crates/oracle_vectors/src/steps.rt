@@ -125,7 +125,7 @@ fn laid(c: Course, entry: &[u8]) -> Course {
         cells: place(entry, 4),
         count: place(entry, 5),
         len: place(entry, 6),
-        flag: word(entry, 7),
+        currentflag: word(entry, 7),
         current: word(entry, 8),
         regs: Registers::stored(word(entry, 9), 0.0, 0.0),
     };

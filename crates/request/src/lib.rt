@@ -1,9 +1,10 @@
 // Requests to and from trace records, and the decoder that walks a lent trace: at a place it hands out a request with the next place.
+mod decode;
+mod encode;
 mod kinds;
-mod parts;
-mod said;
 
-use parts::request_in;
+use decode::request_in;
+pub use encode::record_of;
 use record::RECORD_SIZE;
 use record::Read;
 use record::Record;
@@ -12,8 +13,8 @@ use record::is_lawful;
 use record::read_record;
 use record::write_record;
 use rules::Request;
-pub use said::record_of;
 ghost use mathlib.Core.Path.{_≡_};
+ghost use lib.ListN.{length};
 ghost use Rattle.record.specs.Reading.{shownWrite};
 ghost use Rattle.request.specs.Walk.{shownDecoded, decoded, shownNext, nextAt, nextPlace, requestWritten};
 
@@ -46,7 +47,7 @@ pub fn next_request(bytes: &[u8], at: usize) -> Next
     if bytes.len() <= at {
         return Next::End;
     }
-    let next = place_after(bytes.len(), at);
+    let next = place_after(bytes, at);
     let read = read_record(bytes, at);
     match read {
         Read::Found(r) => Next::Asks(request_in(r), next),
@@ -54,9 +55,11 @@ pub fn next_request(bytes: &[u8], at: usize) -> Next
     }
 }
 
-fn place_after(len: usize, at: usize) -> usize
-    ensures { λ n. ⌜ n ≡ nextPlace len at ⌝ }
+// The place behind the record at a place: 40 bytes on, and no further than the end.
+pub fn place_after(bytes: &[u8], at: usize) -> usize
+    ensures { λ n. ⌜ n ≡ nextPlace (length (now (bytes .entry))) at ⌝ }
 {
+    let len = bytes.len();
     if len < RECORD_SIZE {
         return len;
     }

@@ -82,7 +82,8 @@ fn judge_far(some: bool, len: usize, room: Room, far: usize) -> Judgement
     Judgement::Accept(room)
 }
 
-// Whether there are parameters that end beyond `len`. Note: replace asks it of the new `len`, return-host of the one before growth.
+// Whether the parameters end beyond `len`, where the request has cells to look for; with params 0 too. Note: replace asks it of the new `len`,
+// return-host of the one before growth.
 pub fn is_beyond(some: bool, len: usize, end: usize) -> bool
     ensures { λ r. ⌜ r ≡ beyondLen some len end ⌝ }
 {

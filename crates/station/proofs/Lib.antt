@@ -1,5 +1,6 @@
 pub mod Handed
 pub mod Lent
+pub mod Puts
 pub mod ReadBack
 pub mod Settled
 pub mod Signed

@@ -22,7 +22,7 @@ use Rattle.request.specs.Requests.{recordFor}
 use Rattle.station.specs.declared.requests.CRequest.{CRequest}
 
 abbrev pub callerFrom : CRequest → Given
-callerFrom q = givenIf (truthOf (q .ipflag)) (q .caller)
+callerFrom q = givenIf (truthOf (q .callerflag)) (q .caller)
 
 abbrev pub instanceFrom : CRequest → Given
 instanceFrom q = givenIf (truthOf (q .instanceflag)) (q .instance)
@@ -75,7 +75,7 @@ requestTo r = record {
   locals = r .locals;
   slots = r .slots;
   results = r .results;
-  ipflag = r .flags % 2;
+  callerflag = r .flags % 2;
   caller = r .word1;
   callee = r .word2;
   instanceflag = r .flags / 2 % 2;

@@ -14,7 +14,7 @@ use Rattle.station.specs.declared.traces.CRun.{CRun}
 use Rattle.station.specs.States.{stateFrom, stateTo}
 
 abbrev pub runFrom : CRun → Run
-runFrom c = runWith (stateFrom (c .state)) (c .number) (c .fuel) (c .spent) (givenIf (truthOf (c .flag)) (c .cost))
+runFrom c = runWith (stateFrom (c .state)) (c .number) (c .fuel) (c .spent) (givenIf (truthOf (c .stopflag)) (c .cost))
 
 abbrev pub runTo : Run → CRun
 runTo r = record {
@@ -22,7 +22,7 @@ runTo r = record {
   number = r .number;
   fuel = r .fuel;
   spent = r .spent;
-  flag = truthBit (isGiven (r .stop));
+  stopflag = truthBit (isGiven (r .stop));
   cost = givenNumber (r .stop);
 }
 

@@ -18,7 +18,7 @@ stateFrom c = record {
   cells = c .cells;
   count = c .count;
   len = c .len;
-  current = givenIf (truthOf (c .flag)) (c .current);
+  current = givenIf (truthOf (c .currentflag)) (c .current);
   regs = c .regs;
 }
 
@@ -30,7 +30,7 @@ stateTo s = record {
   cells = s .cells;
   count = s .count;
   len = s .len;
-  flag = truthBit (isGiven (s .current));
+  currentflag = truthBit (isGiven (s .current));
   current = givenNumber (s .current);
   regs = s .regs;
 }

@@ -1,9 +1,10 @@
-// The C face of the stack: what a host in C or Rust links. Numbers, slices and structs of numbers go in and out, with the state by value; no bool
-// and no enum crosses. Every argument gets an answer. include/cattlecleat.h says what each function means.
+// The C face of the stack: what a host in C or Rust links. Numbers, slices and structs of numbers go in and out, with the state by value, and
+// registers in place too; no bool and no enum crosses. Every argument gets an answer. include/cattlecleat.h says what each function means.
 mod answers;
 mod asking;
 mod leaves;
 mod parts;
+mod registers;
 mod requests;
 mod slot;
 mod state;
@@ -20,6 +21,11 @@ pub use leaves::cattlecleat_from_register;
 pub use leaves::cattlecleat_to_register;
 pub use parts::CPart;
 pub use parts::cattlecleat_host_part;
+pub use registers::cattlecleat_put_freg32;
+pub use registers::cattlecleat_put_freg64;
+pub use registers::cattlecleat_put_ireg;
+pub use registers::cattlecleat_put_registers;
+pub use registers::cattlecleat_zero_registers;
 pub use requests::CRequest;
 pub use slot::CDone;
 pub use slot::CReason;

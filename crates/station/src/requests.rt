@@ -20,7 +20,7 @@ pub struct CRequest {
     pub locals: u16,
     pub slots: u16,
     pub results: u16,
-    pub ipflag: u64,
+    pub callerflag: u64,
     pub caller: u64,
     pub callee: u64,
     pub instanceflag: u64,
@@ -50,7 +50,7 @@ fn push_from(q: CRequest) -> PushArgs
     ensures { λ r. ⌜ r ≡ pushFrom q ⌝ }
 {
     PushArgs {
-        caller: given_if(to_bool(q.ipflag), q.caller),
+        caller: given_if(to_bool(q.callerflag), q.caller),
         callee: q.callee,
         head: q.head,
         params: q.params,
@@ -77,7 +77,7 @@ fn host_from(q: CRequest) -> HostArgs
     ensures { λ r. ⌜ r ≡ hostFrom q ⌝ }
 {
     HostArgs {
-        caller: given_if(to_bool(q.ipflag), q.caller),
+        caller: given_if(to_bool(q.callerflag), q.caller),
         head: q.head,
         params: q.params,
         results: q.results,
@@ -107,7 +107,7 @@ pub(crate) fn request_to(r: Record) -> CRequest
         locals: r.locals,
         slots: r.slots,
         results: r.results,
-        ipflag: flags % 2,
+        callerflag: flags % 2,
         caller: r.word1,
         callee: r.word2,
         instanceflag: flags / 2 % 2,

@@ -18,7 +18,7 @@ pub struct CState {
     pub cells: usize,
     pub count: usize,
     pub len: usize,
-    pub flag: u64,
+    pub currentflag: u64,
     pub current: u64,
     pub regs: Registers,
 }
@@ -34,7 +34,7 @@ pub(crate) fn state_from(c: CState) -> State
         cells: c.cells,
         count: c.count,
         len: c.len,
-        current: given_if(to_bool(c.flag), c.current),
+        current: given_if(to_bool(c.currentflag), c.current),
         regs,
     }
 }
@@ -51,7 +51,7 @@ pub(crate) fn state_to(s: State) -> CState
         cells: s.cells,
         count: s.count,
         len: s.len,
-        flag: from_bool(is_given(current)),
+        currentflag: from_bool(is_given(current)),
         current: given_number(current),
         regs,
     }

@@ -32,7 +32,7 @@ pub struct CRun {
     pub number: u64,
     pub fuel: u64,
     pub spent: u64,
-    pub flag: u64,
+    pub stopflag: u64,
     pub cost: u64,
 }
 
@@ -65,7 +65,7 @@ fn run_from(c: CRun) -> Run
         number: c.number,
         fuel: c.fuel,
         spent: c.spent,
-        stop: given_if(to_bool(c.flag), c.cost),
+        stop: given_if(to_bool(c.stopflag), c.cost),
     }
 }
 
@@ -79,7 +79,7 @@ fn run_to(run: Run) -> CRun
         number: run.number,
         fuel: run.fuel,
         spent: run.spent,
-        flag: from_bool(is_given(stop)),
+        stopflag: from_bool(is_given(stop)),
         cost: given_number(stop),
     }
 }

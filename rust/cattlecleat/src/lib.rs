@@ -27,13 +27,14 @@
 //! # Ok::<(), Refusal>(())
 //! ```
 //!
-//! [`Stack`] has one method per request; [`Trace`] and [`Stack::replay`] read and run recorded ones. [`Register`], [`align_relative_to`]
-//! and [`DoneSlot`] are the leaves beside it, and [`raw`] is the plain layer below.
+//! [`Stack`] has one method per request; [`Trace`] and [`Stack::replay`] read and run recorded ones. [`Register`], [`align_relative_to`],
+//! [`DoneSlot`] and the methods of [`Registers`] are the leaves beside it, and [`raw`] is the plain layer below.
 #![deny(missing_docs)]
 
 mod calls;
 mod done;
 mod hosts;
+mod in_place;
 mod plain;
 pub mod raw;
 mod refusal;

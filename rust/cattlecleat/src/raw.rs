@@ -5,6 +5,7 @@
 //! way for a host that keeps the state itself, and for whoever compares every number.
 //!
 //! A flag of 0 reads as none whatever the number beside it, any other as given.
+//! What changes registers in place are methods of [`Registers`].
 
 /// The three registers: an integer, an f32 and an f64, kept bit for bit.
 #[repr(C)]

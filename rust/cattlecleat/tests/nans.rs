@@ -107,3 +107,23 @@ fn a_refused_store_keeps_the_old_ones() {
         assert_eq!(bits(short.regs()), stored);
     });
 }
+
+#[test]
+fn each_put_in_place_changes_what_it_names() {
+    each(|stack, (ireg, single, double)| {
+        let (mut state, _, _) = stack.into_parts();
+        let came = state;
+        for (other_single, other_double) in SINGLES.iter().zip(DOUBLES) {
+            state.regs.put_ireg(!ireg);
+            assert_eq!(bits(state.regs), (!ireg, single, double));
+            state.regs.put_freg32(f32::from_bits(*other_single));
+            assert_eq!(bits(state.regs), (!ireg, *other_single, double));
+            state.regs.put_freg64(f64::from_bits(other_double));
+            assert_eq!(bits(state.regs), (!ireg, *other_single, other_double));
+            state.regs.zero();
+            assert_eq!(bits(state.regs), (0, 0, 0));
+            state.regs.put_all(ireg, f32::from_bits(single), f64::from_bits(double));
+            assert_eq!(state, came);
+        }
+    });
+}

@@ -120,6 +120,20 @@ fn a_trap_leaves_a_frame_and_an_ip_behind_there() {
 }
 
 #[test]
+fn a_trap_leaves_a_frame_popped_there() {
+    let tail = Request::ReturnHost {
+        head: 0,
+        params: 0,
+        results: 11,
+        instance: 1,
+    };
+    assert_eq!(refused(tail), 2);
+    let mut stack = with_a_frame();
+    assert_eq!(call(&mut stack, tail), Err(TrapCode::StackOverflow));
+    assert_eq!(stack.count(), 0);
+}
+
+#[test]
 fn an_empty_host_frame_grows_to_its_start() {
     let host = Request::Host {
         caller: None,

@@ -1,4 +1,5 @@
--- A reader walks as the cursor does: it keeps its bytes, stands where the cursor stands, and hands out what the trace says. Its walk ends. Assumes nothing.
+-- A reader walks as the cursor does: it keeps its bytes, stands where the cursor stands, and hands out what the trace says. Its walk ends. Assumes
+-- nothing.
 use mathlib.Core.Path.{_≡_, refl, sym, ap}
 use mathlib.Core.List.{List, _∷_}
 use Prim.Native.Nat.{ℕ, zero, suc, _+_, _-_, _*_, _≤_, _<_}

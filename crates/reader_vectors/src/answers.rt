@@ -1,5 +1,5 @@
-// The reader's answers, each beside the cursor's. A line: the place, the answer's number, the next place (0 at the end), the record of the request (all 0
-// where there is none), and 1 where the cursor answers otherwise.
+// The reader's answers, each beside the cursor's. A line: the place, the answer's number, the next place (0 at the end), the request's record (all
+// 0 where there is none), and 1 where the cursor answers otherwise.
 use crate::say;
 use record::Record;
 use request::Next;

@@ -1,5 +1,5 @@
-// Traces walked by the reader, two answers a turn: none, document 01's example, the same with record 2 bad, whole and with a short tail of 1 and of 39 bytes.
-// Then single turns at places within a record, at the end and beyond it.
+// Traces walked by the reader, two answers a turn: no bytes, document 01's example, the same with record 2 bad, whole and with a short tail of 1
+// and of 39 bytes. Then single turns at places within a record, at the end and beyond it.
 use crate::answers;
 use crate::say;
 use given::Given;

@@ -1,9 +1,8 @@
 -- Each public promise allows one outcome: one result, and one list of what each buffer holds where it is lent to be written. Assumes nothing.
-use mathlib.Core.Path.{_≡_, refl, sym, ap, _∙_}
+use mathlib.Core.Path.{refl, sym, ap, _∙_}
 use denote.Ref.{now}
 use Rattle.choice.specs.Once.{Once, OnceSeen, beside}
 use Rattle.choice.specs.Promised.{Promised}
-use Rattle.regs.specs.Registers.{zeroRegisters, registersOf, withIreg, withFreg32, withFreg64}
 use Rattle.record.specs.Reading.{ShownWrite}
 use Rattle.station.specs.Told.{ToldAnswer}
 use Rattle.station.specs.Runs.{RunTold}
@@ -38,21 +37,21 @@ cattlecleat-sync-registers-settled κ a r r′ e e′ p q = ap (λ (t : ToldAnsw
 pub cattlecleat-read-registers-settled : Once registers.Post
 cattlecleat-read-registers-settled κ a r r′ e e′ p q = p ∙ sym q
 
--- in place: what the walked functions promise, as plain statements
+-- in place: what the walked functions promise, read off their contracts
 abbrev cattlecleat-put-ireg-says : Promised puts-ireg.ended (λ M. puts-ireg.clauses {M = M})
-cattlecleat-put-ireg-says = record { Post = λ κ a r e. now (e .0) ≡ withIreg (now (a .0)) (a .1 .0); ensures = λ M 𝓤 H A mem run κ a g r e. refl }
+cattlecleat-put-ireg-says = record { Post = λ κ a r e. _; ensures = λ M 𝓤 H A mem run κ a g r e. refl }
 
 abbrev cattlecleat-put-freg32-says : Promised puts-freg32.ended (λ M. puts-freg32.clauses {M = M})
-cattlecleat-put-freg32-says = record { Post = λ κ a r e. now (e .0) ≡ withFreg32 (now (a .0)) (a .1 .0); ensures = λ M 𝓤 H A mem run κ a g r e. refl }
+cattlecleat-put-freg32-says = record { Post = λ κ a r e. _; ensures = λ M 𝓤 H A mem run κ a g r e. refl }
 
 abbrev cattlecleat-put-freg64-says : Promised puts-freg64.ended (λ M. puts-freg64.clauses {M = M})
-cattlecleat-put-freg64-says = record { Post = λ κ a r e. now (e .0) ≡ withFreg64 (now (a .0)) (a .1 .0); ensures = λ M 𝓤 H A mem run κ a g r e. refl }
+cattlecleat-put-freg64-says = record { Post = λ κ a r e. _; ensures = λ M 𝓤 H A mem run κ a g r e. refl }
 
 abbrev cattlecleat-put-registers-says : Promised puts-all.ended (λ M. puts-all.clauses {M = M})
-cattlecleat-put-registers-says = record { Post = λ κ a r e. now (e .0) ≡ registersOf (a .1 .0) (a .1 .1 .0) (a .1 .1 .1 .0); ensures = λ M 𝓤 H A mem run κ a g r e. refl }
+cattlecleat-put-registers-says = record { Post = λ κ a r e. _; ensures = λ M 𝓤 H A mem run κ a g r e. refl }
 
 abbrev cattlecleat-zero-registers-says : Promised zeroes.ended (λ M. zeroes.clauses {M = M})
-cattlecleat-zero-registers-says = record { Post = λ κ a r e. now (e .0) ≡ zeroRegisters; ensures = λ M 𝓤 H A mem run κ a g r e. refl }
+cattlecleat-zero-registers-says = record { Post = λ κ a r e. _; ensures = λ M 𝓤 H A mem run κ a g r e. refl }
 
 pub cattlecleat-put-ireg-settled : OnceSeen (cattlecleat-put-ireg-says .Post) (λ κ r e. now (e .0))
 cattlecleat-put-ireg-settled κ a r r′ e e′ p q = p ∙ sym q

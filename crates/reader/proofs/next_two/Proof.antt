@@ -1,6 +1,7 @@
--- `reader::next_two` meets its contract: a walk of its MIR, by hand. All that it knows of `reader_at`, `hand_out` and `advance` is that each meets its contract:
--- each `Reader` that is returned is known whole, so what `hand_out` says is said of the lent bytes. A `Reader` is Copy: one copy goes to `hand_out`, the other
--- to `advance`. In a local of a body MIR erases the lifetime of the struct's type, so each value is shown to have the type at `erased`. Assumes nothing.
+-- `reader::next_two` meets its contract: a walk of its MIR, by hand. All that it knows of `reader_at`, `hand_out` and `advance` is that each meets
+-- its contract: each `Reader` that is returned is known whole, so what `hand_out` says is said of the lent bytes. A `Reader` is Copy: one copy goes
+-- to `hand_out`, the other to `advance`. In a local of a body MIR erases the lifetime of the struct's type, so each value is shown to have the type
+-- at `erased`. Assumes nothing.
 use mathlib.Core.Path.{_≡_, refl}
 use Prim.Native.Nat.{ℕ, _<_, _^_}
 use mathlib.Core.List.{List, [], _∷_}
@@ -85,7 +86,8 @@ module _ {M : Type 1} (𝓤 : URA M) (H : Heap 𝓤) (A : Atoms 𝓤) (mem : Mem
   abbrev Adv : Contract 𝓤
   Adv = tripleOf 𝓤 H A adv.signature (adv.spec 𝓤 H A mem run)
 
-module _ {M : Type 1} (𝓤 : URA M) (H : Heap 𝓤) (A : Atoms 𝓤) (W : Given 𝓤 H A) (mem : Memory → SProp 𝓤) (run : Routine → Fun 𝓤) (κ : Lft) (q : Share) (s : RefT (List ℕ)) (n : ℕ) (ok : n < 2 ^ 64) where
+module _ {M : Type 1} (𝓤 : URA M) (H : Heap 𝓤) (A : Atoms 𝓤) (W : Given 𝓤 H A) (mem : Memory → SProp 𝓤) (run : Routine → Fun 𝓤) (κ : Lft) (q : Share)
+    (s : RefT (List ℕ)) (n : ℕ) (ok : n < 2 ^ 64) where
   -- the machine value that s has
   abbrev v : Val
   v = sliceVal (s .ptr) (length (s .now))
@@ -122,7 +124,8 @@ module _ {M : Type 1} (𝓤 : URA M) (H : Heap 𝓤) (A : Atoms 𝓤) (W : Given
       qed W ((‵ (flft κ q) ⊛ ‵ ftrue) ∷ ‵ (owns (ShrSlice (named 0) κ u8 ∷ usize ∷ []) (s, (n, tt)) vals) ∷ []) ∵
       move ! (1 ∷ []) $ fsplit ! $ use1 W (‵ Own ⊛ ‵ Own) (shr-slice-copy 𝓤 H A W (named 0) κ u8 .twice s (v ∷ [])) $ split ! $
       move ! (0 ∷ 2 ∷ []) $ fjoin ! $ move ! (2 ∷ 0 ∷ []) $
-      use2 W (raw (New 𝓤 H A mem run .pre to-new)) (qed W ((‵ (flft κ q) ⊛ ‵ ftrue) ∷ ‵ (owns (ShrSlice (named 0) κ u8 ∷ usize ∷ []) (s, (n, tt)) vals) ∷ []) ∵ join ! $ frame ! $ done !) $ frame ! $ done !
+      use2 W (raw (New 𝓤 H A mem run .pre to-new)) (qed W ((‵ (flft κ q) ⊛ ‵ ftrue) ∷ ‵ (owns (ShrSlice (named 0) κ u8 ∷ usize ∷ [])
+      (s, (n, tt)) vals) ∷ []) ∵ join ! $ frame ! $ done !) $ frame ! $ done !
 
   new-said : (r : Reader) → ent 𝓤 (ensured 𝓤 H A new.ended (new.clauses 𝓤 H A mem run) (κ, tt) (s, (n, tt)) tt r) (fact 𝓤 (r ≡ h₀))
   new-said r = exE 𝓤 _ (λ ws. snd∗ 𝓤 (sem 𝓤 H A (lasts new.ended (κ, tt) (s, (n, tt)) ws)) (fact 𝓤 (r ≡ h₀)))
@@ -132,7 +135,8 @@ module _ {M : Type 1} (𝓤 : URA M) (H : Heap 𝓤) (A : Atoms 𝓤) (W : Given
   to-hand r u = (((κ, tt), (q, tt), tt, (r, tt), (u ∷ [], tt)), tt)
 
   goes-hand : (r : Reader) (u : Val) → ent 𝓤 (⋆ 𝓤 H A (‵ (Owned r u) ∷ (‵ (flft κ q) ⊛ ‵ ftrue) ∷ [])) (Hand 𝓤 H A mem run .pre (to-hand r u))
-  goes-hand r u = qed W (‵ (Owned r u) ∷ (‵ (flft κ q) ⊛ ‵ ftrue) ∷ []) ∵ nothing ! $ move ! (1 ∷ 0 ∷ []) $ fjoin ! $ move ! (1 ∷ 0 ∷ []) $ join ! $ frame ! $ done !
+  goes-hand r u = qed W (‵ (Owned r u) ∷ (‵ (flft κ q) ⊛ ‵ ftrue) ∷ []) ∵ nothing ! $ move ! (1 ∷ 0 ∷ []) $ fjoin ! $ move ! (1 ∷ 0 ∷ []) $ join ! $
+      frame ! $ done !
 
   abbrev Found : Reader → Next → Type 0
   Found r t = shownNext t ≡ nextAt (now (r .bytes)) (r .at)
@@ -144,7 +148,8 @@ module _ {M : Type 1} (𝓤 : URA M) (H : Heap 𝓤) (A : Atoms 𝓤) (W : Given
   to-adv r u = (((κ, tt), (q, tt), tt, (r, tt), (u ∷ [], tt)), tt)
 
   goes-adv : (r : Reader) (u : Val) → ent 𝓤 (⋆ 𝓤 H A (‵ (Owned r u) ∷ (‵ (flft κ q) ⊛ ‵ ftrue) ∷ [])) (Adv 𝓤 H A mem run .pre (to-adv r u))
-  goes-adv r u = qed W (‵ (Owned r u) ∷ (‵ (flft κ q) ⊛ ‵ ftrue) ∷ []) ∵ nothing ! $ move ! (1 ∷ 0 ∷ []) $ fjoin ! $ move ! (1 ∷ 0 ∷ []) $ join ! $ frame ! $ done !
+  goes-adv r u = qed W (‵ (Owned r u) ∷ (‵ (flft κ q) ⊛ ‵ ftrue) ∷ []) ∵ nothing ! $ move ! (1 ∷ 0 ∷ []) $ fjoin ! $ move ! (1 ∷ 0 ∷ []) $ join ! $
+      frame ! $ done !
 
   adv-said : (r q′ : Reader) → ent 𝓤 (ensured 𝓤 H A adv.ended (adv.clauses 𝓤 H A mem run) (κ, tt) (r, tt) tt q′) (fact 𝓤 (q′ ≡ passed r))
   adv-said r q′ = exE 𝓤 _ (λ ws. snd∗ 𝓤 (sem 𝓤 H A (lasts adv.ended (κ, tt) (r, tt) ws)) (fact 𝓤 (q′ ≡ passed r)))
@@ -163,69 +168,96 @@ module _ {M : Type 1} (𝓤 : URA M) (H : Heap 𝓤) (A : Atoms 𝓤) (W : Given
       → ent 𝓤 (⋆ 𝓤 H A ((‵ (flft κ q) ⊛ ‵ ftrue) ∷ ‵ Own ∷ [])) (Post (bothVal u u′))
   exits t t′ u u′ is e e′ =
       qed W ((‵ (flft κ q) ⊛ ‵ ftrue) ∷ ‵ Own ∷ []) ∵
-      suffices ! _ (ends-at 𝓤 H A two.ended stayed (two.clauses 𝓤 H A mem run) W (((κ, tt), (q, tt), tt, (s, (n, tt)), vals), tt) (bothVal u u′) (both t t′) (tt, (tt, tt)) (tt, (tt, tt))) $ says ! (λ i. record { first = e i; second = e′ i }) $
+      suffices ! _ (ends-at 𝓤 H A two.ended stayed (two.clauses 𝓤 H A mem run) W (((κ, tt), (q, tt), tt, (s, (n, tt)), vals), tt) (bothVal u u′)
+      (both t t′) (tt, (tt, tt)) (tt, (tt, tt))) $ says ! (λ i. record { first = e i; second = e′ i }) $
       owned ! P.the-row (Is P.the-row) (LL.makes P.the-type P′.the-plain 𝓤 H A) (both t t′) _ is $ move ! (1 ∷ []) $ frame ! $
       -- [the result; what bytes owns]: what the parameters own, and the result
       nothing ! $ owned ! usize (Is usize) (uint-makes 𝓤 H A W w64) n _ (refl, ok) $ fjoin ! $ move ! (2 ∷ 0 ∷ []) $ fjoin ! $ frame ! $ done !
 
-  module _ (C : Calls 𝓤 H) (Λ : Loops 𝓤 H) (fm : FmC 𝓤 H (W .laws) C) (known-new : Triple 𝓤 (C #reader·reader-at) (New 𝓤 H A mem run)) (known-hand : Triple 𝓤 (C #reader·hand-out) (Hand 𝓤 H A mem run)) (known-adv : Triple 𝓤 (C #reader·advance) (Adv 𝓤 H A mem run)) where
-    walk : Is (ShrSlice (named 0) κ u8) s (v ∷ []) → ent 𝓤 (onEntry 𝓤 H A two.signature (κ, tt) (q, tt) (s, (n, tt)) vals) (WpFn 𝓤 H C Λ code.function (v ∷ vint w64 n ∷ []) Post)
+  module _ (C : Calls 𝓤 H) (Λ : Loops 𝓤 H) (fm : FmC 𝓤 H (W .laws) C) (known-new : Triple 𝓤 (C #reader·reader-at) (New 𝓤 H A mem run))
+      (known-hand : Triple 𝓤 (C #reader·hand-out) (Hand 𝓤 H A mem run)) (known-adv : Triple 𝓤 (C #reader·advance) (Adv 𝓤 H A mem run)) where
+    walk : Is (ShrSlice (named 0) κ u8) s (v ∷ [])
+        → ent 𝓤 (onEntry 𝓤 H A two.signature (κ, tt) (q, tt) (s, (n, tt)) vals) (WpFn 𝓤 H C Λ code.function (v ∷ vint w64 n ∷ []) Post)
     walk p =
         qed W (raw (onEntry 𝓤 H A two.signature (κ, tt) (q, tt) (s, (n, tt)) vals) ∷ []) ∵ enter ! C Λ code.function (v ∷ vint w64 n ∷ []) _ $
         alloc1 ! (λ l₀. alloc1 ! (λ l₁. alloc1 ! (λ l₂. alloc1 ! (λ l₃. alloc1 ! (λ l₄. alloc1 ! (λ l₅. alloc1 ! (λ l₆. alloc1 ! (λ l₇. alloc1 ! (λ l₈. alloc0 ! $ params1 ! $
-        pass1 ! (init ! 14 refl (shr-slice-lawful 𝓤 H A W (named 0) κ u8 .typed s (v ∷ []) p .0)) $ pass1 ! (init ! 12 refl (tt, record { fits = ok })) $ pass0 ! $
+        pass1 ! (init ! 14 refl (shr-slice-lawful 𝓤 H A W (named 0) κ u8 .typed s (v ∷ []) p .0)) $
+        pass1 ! (init ! 12 refl (tt, record { fits = ok })) $ pass0 ! $
         -- `reader_at`
         move ! (18 ∷ []) $ use1 W (raw (New 𝓤 H A mem run .pre to-new) ⊛ ‵ Own) goes-new $ split ! $
-        calls-at ! fm (New 𝓤 H A mem run) known-new to-new (and-then ! (load ! (from ! (stop !)) (look ! 16 refl)) (and-then ! (load ! (from ! (stop !)) (look ! 14 refl)) (no-more !))) (λ u₀.
-        use1 W (later (some (λ (r : Reader). ((‵ (flft κ q) ⊛ ‵ ftrue) ⊛ ‵ (Owned r u₀)) ⊛ raw (ensured 𝓤 H A new.ended (new.clauses 𝓤 H A mem run) (κ, tt) (s, (n, tt)) tt r)))) (id⊢ 𝓤 _) $ await ! tt $ pick ! (λ r₀.
-        split ! $ move ! (1 ∷ []) $ use1 W (raw (fact 𝓤 (r₀ ≡ h₀))) (new-said r₀) $ heard ! (r₀ ≡ h₀) (λ e₀. split ! $ move ! (1 ∷ []) $ rewrite ! 0 (λ (h : Reader). ‵ (Owned h u₀)) e₀ refl $
+        calls-at ! fm (New 𝓤 H A mem run) known-new to-new (and-then ! (load ! (from ! (stop !)) (look ! 16 refl))
+        (and-then ! (load ! (from ! (stop !)) (look ! 14 refl)) (no-more !))) (λ u₀.
+        use1 W (later (some (λ (r : Reader). ((‵ (flft κ q) ⊛ ‵ ftrue) ⊛ ‵ (Owned r u₀)) ⊛ raw
+        (ensured 𝓤 H A new.ended (new.clauses 𝓤 H A mem run) (κ, tt) (s, (n, tt)) tt r)))) (id⊢ 𝓤 _) $ await ! tt $ pick ! (λ r₀.
+        split ! $ move ! (1 ∷ []) $ use1 W (raw (fact 𝓤 (r₀ ≡ h₀))) (new-said r₀) $ heard ! (r₀ ≡ h₀) (λ e₀. split ! $ move ! (1 ∷ []) $
+        rewrite ! 0 (λ (h : Reader). ‵ (Owned h u₀)) e₀ refl $
         -- [what the struct owns; the token; what bytes owns; _8; …; _7; …; _6; …; _5; …; _4; …; _3; …; _2; …; _1; …; room for _0; …]
         peeks ! (B (κ, tt)) (Is (B (κ, tt))) (shows 𝓤 H A (B (κ, tt))) h₀ (u₀ ∷ []) (λ is₀.
         land ! (from ! (stop !)) (init ! 13 refl (LL.lawful (T.the-type αᵉ) (T′.the-laws αᵉ) 𝓤 H A W .typed h₀ _ is₀ .0)) $
-        assigns ! (of-opd ! (load ! (from ! (stop !)) (look ! 13 refl))) (from ! (stop !)) (init ! 7 refl (LL.lawful (T.the-type αᵉ) (T′.the-laws αᵉ) 𝓤 H A W .typed h₀ _ is₀ .0)) $
+        assigns ! (of-opd ! (load ! (from ! (stop !)) (look ! 13 refl))) (from ! (stop !))
+        (init ! 7 refl (LL.lawful (T.the-type αᵉ) (T′.the-laws αᵉ) 𝓤 H A W .typed h₀ _ is₀ .0)) $
         -- `hand_out`, on a copy
-        use1 W (‵ (Owned h₀ u₀) ⊛ ‵ (Owned h₀ u₀)) (LL.copy (T.the-type (namedLft 1 0 tt (κ, tt))) (T′.the-copy (namedLft 1 0 tt (κ, tt))) 𝓤 H A W .twice h₀ (u₀ ∷ [])) $ split ! $ move ! (0 ∷ 2 ∷ []) $
+        use1 W (‵ (Owned h₀ u₀) ⊛ ‵ (Owned h₀ u₀)) (LL.copy (T.the-type (namedLft 1 0 tt (κ, tt)))
+        (T′.the-copy (namedLft 1 0 tt (κ, tt))) 𝓤 H A W .twice h₀ (u₀ ∷ [])) $ split ! $ move ! (0 ∷ 2 ∷ []) $
         use2 W (raw (Hand 𝓤 H A mem run .pre (to-hand h₀ u₀))) (goes-hand h₀ u₀) $
         calls-at ! fm (Hand 𝓤 H A mem run) known-hand (to-hand h₀ u₀) (and-then ! (load ! (from ! (stop !)) (look ! 7 refl)) (no-more !)) (λ u.
-        use1 W (later (some (λ (t : Next). ((‵ (flft κ q) ⊛ ‵ ftrue) ⊛ ‵ (S.the-row .own t (u ∷ []))) ⊛ raw (ensured 𝓤 H A hand.ended (hand.clauses 𝓤 H A mem run) (κ, tt) (h₀, tt) tt t)))) (id⊢ 𝓤 _) $ await ! tt $ pick ! (λ t.
+        use1 W (later (some (λ (t : Next). ((‵ (flft κ q) ⊛ ‵ ftrue) ⊛ ‵ (S.the-row .own t (u ∷ []))) ⊛ raw
+        (ensured 𝓤 H A hand.ended (hand.clauses 𝓤 H A mem run) (κ, tt) (h₀, tt) tt t)))) (id⊢ 𝓤 _) $ await ! tt $ pick ! (λ t.
         split ! $ move ! (1 ∷ []) $ use1 W (raw (fact 𝓤 (Found h₀ t))) (hand-said h₀ t) $ heard ! (Found h₀ t) (λ e. split ! $ move ! (1 ∷ []) $
         -- [the request; the token; what the struct owns; what bytes owns; _8; …]
         peeks ! S.the-row (Is S.the-row) (shows 𝓤 H A S.the-row) t (u ∷ []) (λ is.
         land ! (from ! (stop !)) (init ! 12 refl (EL.lawful S.the-type S′.the-laws 𝓤 H A W tt .typed t _ is .0)) $ drop ! $
-        assigns ! (of-opd ! (load ! (from ! (stop !)) (look ! 13 refl))) (from ! (stop !)) (init ! 3 refl (LL.lawful (T.the-type αᵉ) (T′.the-laws αᵉ) 𝓤 H A W .typed h₀ _ is₀ .0)) $
+        assigns ! (of-opd ! (load ! (from ! (stop !)) (look ! 13 refl))) (from ! (stop !))
+        (init ! 3 refl (LL.lawful (T.the-type αᵉ) (T′.the-laws αᵉ) 𝓤 H A W .typed h₀ _ is₀ .0)) $
         -- `advance`
         move ! (1 ∷ 0 ∷ []) $ use2 W (raw (Adv 𝓤 H A mem run .pre (to-adv h₀ u₀))) (goes-adv h₀ u₀) $
         calls-at ! fm (Adv 𝓤 H A mem run) known-adv (to-adv h₀ u₀) (and-then ! (load ! (from ! (stop !)) (look ! 2 refl)) (no-more !)) (λ u₁.
-        use1 W (later (some (λ (r : Reader). ((‵ (flft κ q) ⊛ ‵ ftrue) ⊛ ‵ (Owned r u₁)) ⊛ raw (ensured 𝓤 H A adv.ended (adv.clauses 𝓤 H A mem run) (κ, tt) (h₀, tt) tt r)))) (id⊢ 𝓤 _) $ await ! tt $ pick ! (λ r₁.
-        split ! $ move ! (1 ∷ []) $ use1 W (raw (fact 𝓤 (r₁ ≡ h₁))) (adv-said h₀ r₁) $ heard ! (r₁ ≡ h₁) (λ e₁. split ! $ move ! (1 ∷ []) $ rewrite ! 0 (λ (h : Reader). ‵ (Owned h u₁)) e₁ refl $
+        use1 W (later (some (λ (r : Reader). ((‵ (flft κ q) ⊛ ‵ ftrue) ⊛ ‵ (Owned r u₁)) ⊛ raw
+        (ensured 𝓤 H A adv.ended (adv.clauses 𝓤 H A mem run) (κ, tt) (h₀, tt) tt r)))) (id⊢ 𝓤 _) $ await ! tt $ pick ! (λ r₁.
+        split ! $ move ! (1 ∷ []) $ use1 W (raw (fact 𝓤 (r₁ ≡ h₁))) (adv-said h₀ r₁) $ heard ! (r₁ ≡ h₁) (λ e₁. split ! $ move ! (1 ∷ []) $
+        rewrite ! 0 (λ (h : Reader). ‵ (Owned h u₁)) e₁ refl $
         -- [what the struct owns; the token; what bytes owns; _8; …]
         peeks ! (B (κ, tt)) (Is (B (κ, tt))) (shows 𝓤 H A (B (κ, tt))) h₁ (u₁ ∷ []) (λ is₁.
         land ! (from ! (stop !)) (init ! 5 refl (LL.lawful (T.the-type αᵉ) (T′.the-laws αᵉ) 𝓤 H A W .typed h₁ _ is₁ .0)) $
         -- `hand_out` again
         use2 W (raw (Hand 𝓤 H A mem run .pre (to-hand h₁ u₁))) (goes-hand h₁ u₁) $
         calls-at ! fm (Hand 𝓤 H A mem run) known-hand (to-hand h₁ u₁) (and-then ! (load ! (from ! (stop !)) (look ! 4 refl)) (no-more !)) (λ u′.
-        use1 W (later (some (λ (t : Next). ((‵ (flft κ q) ⊛ ‵ ftrue) ⊛ ‵ (S.the-row .own t (u′ ∷ []))) ⊛ raw (ensured 𝓤 H A hand.ended (hand.clauses 𝓤 H A mem run) (κ, tt) (h₁, tt) tt t)))) (id⊢ 𝓤 _) $ await ! tt $ pick ! (λ t′.
+        use1 W (later (some (λ (t : Next). ((‵ (flft κ q) ⊛ ‵ ftrue) ⊛ ‵ (S.the-row .own t (u′ ∷ []))) ⊛ raw
+        (ensured 𝓤 H A hand.ended (hand.clauses 𝓤 H A mem run) (κ, tt) (h₁, tt) tt t)))) (id⊢ 𝓤 _) $ await ! tt $ pick ! (λ t′.
         split ! $ move ! (1 ∷ []) $ use1 W (raw (fact 𝓤 (Found h₁ t′))) (hand-said h₁ t′) $ heard ! (Found h₁ t′) (λ e′. split ! $ move ! (1 ∷ []) $
         peeks ! S.the-row (Is S.the-row) (shows 𝓤 H A S.the-row) t′ (u′ ∷ []) (λ is′.
         land ! (from ! (stop !)) (init ! 9 refl (EL.lawful S.the-type S′.the-laws 𝓤 H A W tt .typed t′ _ is′ .0)) $ drop ! $
         -- [the token; what bytes owns; _8; …]
-        assigns ! (agg ! (and-then ! (load ! (from ! (stop !)) (look ! 10 refl)) (and-then ! (load ! (from ! (stop !)) (look ! 8 refl)) (no-more !)))) (from ! (stop !)) (init ! 18 refl (LL.lawful P.the-type P′.the-laws 𝓤 H A W .typed (both t t′) _ (both-is t t′ u u′ is is′) .0)) $
-        returns ! (look ! 18 refl) $ forget ! 2 refl $ forget ! 4 refl $ forget ! 6 refl $ forget ! 8 refl $ forget ! 10 refl $ forget ! 12 refl $ forget ! 14 refl $ forget ! 16 refl $ forget ! 18 refl $
-        move ! (18 ∷ 19 ∷ []) $ free1 ! $ move ! (16 ∷ 17 ∷ []) $ free1 ! $ move ! (14 ∷ 15 ∷ []) $ free1 ! $ move ! (12 ∷ 13 ∷ []) $ free1 ! $ move ! (10 ∷ 11 ∷ []) $ free1 ! $ move ! (8 ∷ 9 ∷ []) $ free1 ! $ move ! (6 ∷ 7 ∷ []) $ free1 ! $ move ! (4 ∷ 5 ∷ []) $ free1 ! $ move ! (2 ∷ 3 ∷ []) $ free1 ! $ free0 ! $
+        assigns ! (agg ! (and-then ! (load ! (from ! (stop !)) (look ! 10 refl))
+        (and-then ! (load ! (from ! (stop !)) (look ! 8 refl)) (no-more !)))) (from ! (stop !))
+        (init ! 18 refl (LL.lawful P.the-type P′.the-laws 𝓤 H A W .typed (both t t′) _ (both-is t t′ u u′ is is′) .0)) $
+        returns ! (look ! 18 refl) $ forget ! 2 refl $ forget ! 4 refl $ forget ! 6 refl $ forget ! 8 refl $ forget ! 10 refl $ forget ! 12 refl $
+        forget ! 14 refl $ forget ! 16 refl $ forget ! 18 refl $
+        move ! (18 ∷ 19 ∷ []) $ free1 ! $ move ! (16 ∷ 17 ∷ []) $ free1 ! $ move ! (14 ∷ 15 ∷ []) $ free1 ! $ move ! (12 ∷ 13 ∷ []) $ free1 ! $
+        move ! (10 ∷ 11 ∷ []) $ free1 ! $ move ! (8 ∷ 9 ∷ []) $ free1 ! $ move ! (6 ∷ 7 ∷ []) $ free1 ! $ move ! (4 ∷ 5 ∷ []) $ free1 ! $
+        move ! (2 ∷ 3 ∷ []) $ free1 ! $ free0 ! $
         by ! (exits t t′ u u′ (both-is t t′ u u′ is is′) e e′))))))))))))))))))))))))))
 
 module _ {M : Type 1} (𝓤 : URA M) (H : Heap 𝓤) (A : Atoms 𝓤) (W : Given 𝓤 H A) (mem : Memory → SProp 𝓤) (run : Routine → Fun 𝓤) where
-  two-walks : (C : Calls 𝓤 H) (Λ : Loops 𝓤 H) → FmC 𝓤 H (W .laws) C → Triple 𝓤 (C #reader·reader-at) (New 𝓤 H A mem run) → Triple 𝓤 (C #reader·hand-out) (Hand 𝓤 H A mem run) → Triple 𝓤 (C #reader·advance) (Adv 𝓤 H A mem run)
+  two-walks : (C : Calls 𝓤 H) (Λ : Loops 𝓤 H) → FmC 𝓤 H (W .laws) C → Triple 𝓤 (C #reader·reader-at) (New 𝓤 H A mem run)
+      → Triple 𝓤 (C #reader·hand-out) (Hand 𝓤 H A mem run) → Triple 𝓤 (C #reader·advance) (Adv 𝓤 H A mem run)
       → Walks 𝓤 H A two.ended stayed (WpFn 𝓤 H C Λ code.function) (two.clauses 𝓤 H A mem run)
-  two-walks C Λ fm known-new known-hand known-adv = walked 𝓤 H A two.ended stayed (two.clauses 𝓤 H A mem run) (WpFn 𝓤 H C Λ code.function) (λ κs. (slice-vals, (uint-vals w64, tt))) (λ κs. (shr-slice-tells (named 0) (κs .0) u8, (uint-tells w64, tt)))
-      (λ κs qs bounds a g are. via 𝓤 _ (fst∗ 𝓤 _ (emp 𝓤)) (walk 𝓤 H A W mem run (κs .0) (qs .0) (a .0) (a .1 .0) (are .1 .0 .1) C Λ fm known-new known-hand known-adv (are .0)))
+  two-walks C Λ fm known-new known-hand known-adv = walked 𝓤 H A two.ended stayed (two.clauses 𝓤 H A mem run) (WpFn 𝓤 H C Λ code.function)
+      (λ κs. (slice-vals, (uint-vals w64, tt))) (λ κs. (shr-slice-tells (named 0) (κs .0) u8, (uint-tells w64, tt)))
+      (λ κs qs bounds a g are. via 𝓤 _ (fst∗ 𝓤 _ (emp 𝓤)) (walk 𝓤 H A W mem run (κs .0) (qs .0) (a .0) (a .1 .0)
+      (are .1 .0 .1) C Λ fm known-new known-hand known-adv (are .0)))
 
 two-meets : {M : Type 1} (𝓤 : URA M) (H : Heap 𝓤) (A : Atoms 𝓤) (W : Given 𝓤 H A) (mem : Memory → SProp 𝓤) (run : Routine → Fun 𝓤) (𝓣 : Tables 𝓤 H)
-    → Triple 𝓤 (𝓣 .C #reader·reader-at) (New 𝓤 H A mem run) → Triple 𝓤 (𝓣 .C #reader·hand-out) (Hand 𝓤 H A mem run) → Triple 𝓤 (𝓣 .C #reader·advance) (Adv 𝓤 H A mem run)
+    → Triple 𝓤 (𝓣 .C #reader·reader-at) (New 𝓤 H A mem run) → Triple 𝓤 (𝓣 .C #reader·hand-out) (Hand 𝓤 H A mem run)
+    → Triple 𝓤 (𝓣 .C #reader·advance) (Adv 𝓤 H A mem run)
     → Meets 𝓤 H A two.signature (WpFn 𝓤 H (𝓣 .C) (𝓣 .Λ) code.function) (two.spec 𝓤 H A mem run)
 two-meets 𝓤 H A W mem run 𝓣 known-new known-hand known-adv =
-    walk-meets 𝓤 H A two.ended stayed W (goes-none-slice 𝓤 H A W 1 (0 ∷ []) tt (plain (λ _. u8)) yes, (goes-none 𝓤 H A W 1 (λ _. usize) yes (λ κs x f. refl), tt)) (two.clauses 𝓤 H A mem run)
-    (WpFn 𝓤 H (𝓣 .C) (𝓣 .Λ) code.function) (WpFn-mono 𝓤 H (W .laws) 𝓣 code.function) (two-walks 𝓤 H A W mem run (𝓣 .C) (𝓣 .Λ) (fmOf 𝓤 H (W .laws) 𝓣) known-new known-hand known-adv)
+    walk-meets 𝓤 H A two.ended stayed W (
+      goes-none-slice 𝓤 H A W 1 (0 ∷ []) tt (plain (λ _. u8)) yes,
+      (goes-none 𝓤 H A W 1 (λ _. usize) yes (λ κs x f. refl), tt),
+    ) (two.clauses 𝓤 H A mem run)
+    (WpFn 𝓤 H (𝓣 .C) (𝓣 .Λ) code.function) (WpFn-mono 𝓤 H (W .laws) 𝓣 code.function)
+    (two-walks 𝓤 H A W mem run (𝓣 .C) (𝓣 .Λ) (fmOf 𝓤 H (W .laws) 𝓣) known-new known-hand known-adv)
 
 pub next-two-spec : {M : Type 1} → stated.statement M
 unfolding code.routine tablesOf

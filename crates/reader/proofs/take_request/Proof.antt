@@ -1,6 +1,6 @@
--- `reader::take_request` meets its contract: a walk of its MIR, by hand. The borrow is opened, `next_request` and `place_after` are called on the slice and the
--- place that the struct holds, and the borrow is closed at the struct with the new place. The struct is Copy: what it owns is had once for each call, and is
--- kept. Assumes nothing.
+-- `reader::take_request` meets its contract: a walk of its MIR, by hand. The borrow is opened, `next_request` and `place_after` are called on the
+-- slice and the place that the struct holds, and the borrow is closed at the struct with the new place. The struct is Copy: what it owns is had once
+-- for each call, and is kept. Assumes nothing.
 use mathlib.Core.Path.{_≡_, refl, ap}
 use Prim.Native.Nat.{ℕ, _<_, _^_}
 use mathlib.Core.List.{List, [], _∷_}
@@ -88,7 +88,8 @@ module _ {M : Type 1} (𝓤 : URA M) (H : Heap 𝓤) (A : Atoms 𝓤) (mem′ : 
   abbrev AfterAt : Contract 𝓤
   AfterAt = tripleOf 𝓤 H A aft.signature (aft.spec 𝓤 H A mem′ run)
 
-module _ {M : Type 1} (𝓤 : URA M) (H : Heap 𝓤) (A : Atoms 𝓤) (W : Given 𝓤 H A) (at-mem : Memory → SProp 𝓤) (run : Routine → Fun 𝓤) (κ κ′ : Lft) (q q′ : Share) (bounds : AllOutlive 2 (taken.signature .outlives) (κ, (κ′, tt))) (b o : ℕ) (γ : GName) (h : Reader) where
+module _ {M : Type 1} (𝓤 : URA M) (H : Heap 𝓤) (A : Atoms 𝓤) (W : Given 𝓤 H A) (at-mem : Memory → SProp 𝓤) (run : Routine → Fun 𝓤) (κ κ′ : Lft)
+    (q q′ : Share) (bounds : AllOutlive 2 (taken.signature .outlives) (κ, (κ′, tt))) (b o : ℕ) (γ : GName) (h : Reader) where
   abbrev x : RefT Reader × Unit {0}
   x = (record { ptr = (b, o); name = γ; now = h }, tt)
 
@@ -115,23 +116,25 @@ module _ {M : Type 1} (𝓤 : URA M) (H : Heap 𝓤) (A : Atoms 𝓤) (W : Given
   vd = (h .bytes, (h .at, tt))
 
   -- what each callee is passed, and that what the struct owns is what it asks
-  abbrev passed : Vals step.signature (κ′, tt)
-  passed = (sliceVal (h .bytes .ptr) (length (h .bytes .now)) ∷ [], (vint w64 (h .at) ∷ [], tt))
+  abbrev sent : Vals step.signature (κ′, tt)
+  sent = (sliceVal (h .bytes .ptr) (length (h .bytes .now)) ∷ [], (vint w64 (h .at) ∷ [], tt))
 
   abbrev to-step : StepAt 𝓤 H A at-mem run .Ghost
-  to-step = (((κ′, tt), (q′, tt), tt, (h .bytes, (h .at, tt)), passed), tt)
+  to-step = (((κ′, tt), (q′, tt), tt, (h .bytes, (h .at, tt)), sent), tt)
 
   goes-step : ent 𝓤 (⋆ 𝓤 H A (‵ Own ∷ (‵ (flft κ′ q′) ⊛ ‵ ftrue) ∷ [])) (StepAt 𝓤 H A at-mem run .pre to-step)
   goes-step =
-      qed W (‵ Own ∷ (‵ (flft κ′ q′) ⊛ ‵ ftrue) ∷ []) ∵ use1 W (given (mach ∷ [] ≡ mach ∷ []) (‵ (all-own (D .parts) L vd))) (own-open 𝓤 H A W D L vd mach) $ learn ! (λ _.
+      qed W (‵ Own ∷ (‵ (flft κ′ q′) ⊛ ‵ ftrue) ∷ []) ∵ use1 W (given (mach ∷ [] ≡ mach ∷ []) (‵ (all-own (D .parts) L vd)))
+      (own-open 𝓤 H A W D L vd mach) $ learn ! (λ _.
       move ! (1 ∷ 0 ∷ []) $ join ! $ frame ! $ done !)
 
   abbrev to-after : AfterAt 𝓤 H A at-mem run .Ghost
-  to-after = (((κ′, tt), (q′, tt), tt, (h .bytes, (h .at, tt)), passed), tt)
+  to-after = (((κ′, tt), (q′, tt), tt, (h .bytes, (h .at, tt)), sent), tt)
 
   goes-after : ent 𝓤 (⋆ 𝓤 H A (‵ Own ∷ (‵ (flft κ′ q′) ⊛ ‵ ftrue) ∷ [])) (AfterAt 𝓤 H A at-mem run .pre to-after)
   goes-after =
-      qed W (‵ Own ∷ (‵ (flft κ′ q′) ⊛ ‵ ftrue) ∷ []) ∵ use1 W (given (mach ∷ [] ≡ mach ∷ []) (‵ (all-own (D .parts) L vd))) (own-open 𝓤 H A W D L vd mach) $ learn ! (λ _.
+      qed W (‵ Own ∷ (‵ (flft κ′ q′) ⊛ ‵ ftrue) ∷ []) ∵ use1 W (given (mach ∷ [] ≡ mach ∷ []) (‵ (all-own (D .parts) L vd)))
+      (own-open 𝓤 H A W D L vd mach) $ learn ! (λ _.
       move ! (1 ∷ 0 ∷ []) $ join ! $ frame ! $ done !)
 
   -- of each callee's `ensured`, the clause alone
@@ -152,65 +155,90 @@ module _ {M : Type 1} (𝓤 : URA M) (H : Heap 𝓤) (A : Atoms 𝓤) (W : Given
   h′ n = readerOn (h .bytes) n
 
   again : (n : ℕ) → n < 2 ^ 64 → ent 𝓤 (sem 𝓤 H A Own) (sem 𝓤 H A (B κ′ .own (h′ n) (T′.lowered (h′ n) ∷ [])))
-  again n ok = qed W (‵ Own ∷ []) ∵ owned ! usize (Is usize) (uint-makes 𝓤 H A W w64) n _ (refl, ok) $ move ! (1 ∷ 0 ∷ []) $ by ! (own-put 𝓤 H A W D L 1 vd n mach)
+  again n ok = qed W (‵ Own ∷ []) ∵ owned ! usize (Is usize) (uint-makes 𝓤 H A W w64) n _ (refl, ok) $ move ! (1 ∷ 0 ∷ []) $
+      by ! (own-put 𝓤 H A W D L 1 vd n mach)
 
   exits : (t : Next) (u : Val) (n : ℕ) → Found t → Moved n
-      → ent 𝓤 (⋆ 𝓤 H A (‵ (fobs γ (B κ′ .coded .code (h′ n))) ∷ ‵ (fbor κ (Body (mem (B κ′)) b o γ)) ∷ ‵ (flft κ q) ∷ (‵ (flft κ′ q′) ⊛ ‵ ftrue) ∷ ‵ (S.the-row .own t (u ∷ [])) ∷ [])) (Post u)
+      → ent 𝓤 (⋆ 𝓤 H A (‵ (fobs γ (B κ′ .coded .code (h′ n))) ∷ ‵ (fbor κ (Body (mem (B κ′)) b o γ)) ∷ ‵ (flft κ q) ∷
+      (‵ (flft κ′ q′) ⊛ ‵ ftrue) ∷ ‵ (S.the-row .own t (u ∷ [])) ∷ [])) (Post u)
   exits t u n e m =
-      qed W (‵ (fobs γ (B κ′ .coded .code (h′ n))) ∷ ‵ (fbor κ (Body (mem (B κ′)) b o γ)) ∷ ‵ (flft κ q) ∷ (‵ (flft κ′ q′) ⊛ ‵ ftrue) ∷ ‵ (S.the-row .own t (u ∷ [])) ∷ []) ∵
-      suffices ! _ (ends-at 𝓤 H A taken.ended stayed (taken.clauses 𝓤 H A at-mem run) W (((κ, (κ′, tt)), (q, (q′, tt)), bounds, x, at), tt) u t (h′ n, tt) (tt, tt)) $ says ! (e, ap h′ m) $
-      move ! (2 ∷ 3 ∷ []) $ join ! $ frame ! $ feqI ! (List Val) (vptr b o ∷ []) (vptr b o ∷ []) refl $ fjoin3 ! $ nothing ! $ move ! (1 ∷ 0 ∷ []) $ fjoin ! $ done !
+      qed W (‵ (fobs γ (B κ′ .coded .code (h′ n))) ∷ ‵ (fbor κ (Body (mem (B κ′)) b o γ)) ∷ ‵ (flft κ q) ∷
+      (‵ (flft κ′ q′) ⊛ ‵ ftrue) ∷ ‵ (S.the-row .own t (u ∷ [])) ∷ []) ∵
+      suffices ! _ (ends-at 𝓤 H A taken.ended stayed (taken.clauses 𝓤 H A at-mem run) W (((κ, (κ′, tt)), (q, (q′, tt)), bounds, x, at), tt) u t
+      (h′ n, tt) (tt, tt)) $ says ! (e, ap h′ m) $
+      move ! (2 ∷ 3 ∷ []) $ join ! $ frame ! $ feqI ! (List Val) (vptr b o ∷ []) (vptr b o ∷ []) refl $ fjoin3 ! $ nothing ! $ move ! (1 ∷ 0 ∷ []) $
+      fjoin ! $ done !
 
-  module _ (C : Calls 𝓤 H) (Λ : Loops 𝓤 H) (fm : FmC 𝓤 H (W .laws) C) (known-step : Triple 𝓤 (C #request·next-request) (StepAt 𝓤 H A at-mem run)) (known-after : Triple 𝓤 (C #request·place-after) (AfterAt 𝓤 H A at-mem run)) where
+  module _ (C : Calls 𝓤 H) (Λ : Loops 𝓤 H) (fm : FmC 𝓤 H (W .laws) C) (known-step : Triple 𝓤 (C #request·next-request) (StepAt 𝓤 H A at-mem run))
+      (known-after : Triple 𝓤 (C #request·place-after) (AfterAt 𝓤 H A at-mem run)) where
     walk : ent 𝓤 (onEntry 𝓤 H A taken.signature (κ, (κ′, tt)) (q, (q′, tt)) x at) (WpFn 𝓤 H C Λ code.function (vptr b o ∷ []) Post)
     walk =
-        qed W ((‵ (flft κ q) ⊛ ‵ (flft κ′ q′) ⊛ ‵ ftrue) ∷ ‵ (owns (MutRef (named 0) κ (B κ′) ∷ []) x at) ∷ []) ∵ enter ! C Λ code.function (vptr b o ∷ []) _ $
-        alloc1 ! (λ l₀. alloc1 ! (λ l₁. alloc1 ! (λ l₂. alloc1 ! (λ l₃. alloc1 ! (λ l₄. alloc1 ! (λ l₅. alloc0 ! $ params1 ! $ pass1 ! (init ! 8 refl (tt, tt)) $ pass0 ! $
+        qed W ((‵ (flft κ q) ⊛ ‵ (flft κ′ q′) ⊛ ‵ ftrue) ∷ ‵ (owns (MutRef (named 0) κ (B κ′) ∷ []) x at) ∷ []) ∵ enter ! C Λ code.function
+        (vptr b o ∷ []) _ $
+        alloc1 ! (λ l₀. alloc1 ! (λ l₁. alloc1 ! (λ l₂. alloc1 ! (λ l₃. alloc1 ! (λ l₄. alloc1 ! (λ l₅. alloc0 ! $ params1 ! $
+        pass1 ! (init ! 8 refl (tt, tt)) $ pass0 ! $
         move ! (13 ∷ []) $ fsplit ! $ fsplit3 ! $ drop ! $ move ! (15 ∷ []) $ split ! $ move ! (2 ∷ 3 ∷ 0 ∷ []) $
         opens ! tt (B κ′) {h = h} b o (λ vs. spelt ! (B κ′) (Is (B κ′)) (shows 𝓤 H A (B κ′)) (LL.vals D L) (LL.tells D L) fullShare h vs b o $
         use1 W (‵ (fat fullShare (T′.mir erased) b o mach)) (W .laws .raw-at fullShare (T′.mir erased) b o mach) $
         move ! (1 ∷ []) $ peeks ! (B κ′) (Is (B κ′)) (shows 𝓤 H A (B κ′)) h (mach ∷ []) (λ was. move ! (1 ∷ 0 ∷ []) $
         -- [the struct's cell; what a Reader owns; the open borrow; obs; auth; 'a's token; true; _5; …; _4; …; _3; …; _2; …; _1; …; room for _0; …]
-        assigns ! (of-opd ! (load ! (from ! (hop ! (look ! 15 refl) (fld ! refl (stop !)))) (look-in ! 0 (sub ! 0 refl (whole !))))) (from ! (stop !)) (init ! 13 refl (tt, LL.lawful D L 𝓤 H A W .typed h _ was .0 .1 .0)) $
-        assigns ! (of-opd ! (load ! (from ! (hop ! (look ! 15 refl) (fld ! refl (stop !)))) (look-in ! 0 (sub ! 1 refl (whole !))))) (from ! (stop !)) (init ! 11 refl (tt, LL.lawful D L 𝓤 H A W .typed h _ was .0 .1 .1 .0)) $
+        assigns ! (of-opd ! (load ! (from ! (hop ! (look ! 15 refl) (fld ! refl (stop !)))) (look-in ! 0 (sub ! 0 refl (whole !)))))
+        (from ! (stop !)) (init ! 13 refl (tt, LL.lawful D L 𝓤 H A W .typed h _ was .0 .1 .0)) $
+        assigns ! (of-opd ! (load ! (from ! (hop ! (look ! 15 refl) (fld ! refl (stop !)))) (look-in ! 0 (sub ! 1 refl (whole !)))))
+        (from ! (stop !)) (init ! 11 refl (tt, LL.lawful D L 𝓤 H A W .typed h _ was .0 .1 .1 .0)) $
         -- `next_request`
-        move ! (1 ∷ []) $ use1 W (‵ Own ⊛ ‵ Own) (LL.copy D (T′.the-copy (α κ′)) 𝓤 H A W .twice h (mach ∷ [])) $ split ! $ move ! (0 ∷ 6 ∷ []) $ use2 W (raw (StepAt 𝓤 H A at-mem run .pre to-step)) goes-step $
-        calls-at ! fm (StepAt 𝓤 H A at-mem run) known-step to-step (and-then ! (load ! (from ! (stop !)) (look ! 13 refl)) (and-then ! (load ! (from ! (stop !)) (look ! 11 refl)) (no-more !))) (λ u.
-        use1 W (later (some (λ (t : Next). ((‵ (flft κ′ q′) ⊛ ‵ ftrue) ⊛ ‵ (S.the-row .own t (u ∷ []))) ⊛ raw (ensured 𝓤 H A step.ended (step.clauses 𝓤 H A at-mem run) (κ′, tt) (h .bytes, (h .at, tt)) tt t)))) (id⊢ 𝓤 _) $ await ! tt $ pick ! (λ t.
+        move ! (1 ∷ []) $ use1 W (‵ Own ⊛ ‵ Own) (LL.copy D (T′.the-copy (α κ′)) 𝓤 H A W .twice h (mach ∷ [])) $ split ! $ move ! (0 ∷ 6 ∷ []) $
+        use2 W (raw (StepAt 𝓤 H A at-mem run .pre to-step)) goes-step $
+        calls-at ! fm (StepAt 𝓤 H A at-mem run) known-step to-step (and-then ! (load ! (from ! (stop !)) (look ! 13 refl))
+        (and-then ! (load ! (from ! (stop !)) (look ! 11 refl)) (no-more !))) (λ u.
+        use1 W (later (some (λ (t : Next). ((‵ (flft κ′ q′) ⊛ ‵ ftrue) ⊛ ‵ (S.the-row .own t (u ∷ []))) ⊛ raw
+        (ensured 𝓤 H A step.ended (step.clauses 𝓤 H A at-mem run) (κ′, tt) (h .bytes, (h .at, tt)) tt t)))) (id⊢ 𝓤 _) $ await ! tt $ pick ! (λ t.
         split ! $ move ! (1 ∷ []) $ use1 W (raw (fact 𝓤 (Found t))) (step-said t) $ heard ! (Found t) (λ e. split ! $ move ! (1 ∷ []) $
         -- [the request; 'a's token; what the Reader owns; the struct's cell; the open borrow; obs; auth; true; _5; …]
         peeks ! S.the-row (Is S.the-row) (shows 𝓤 H A S.the-row) t (u ∷ []) (λ is.
         land ! (from ! (stop !)) (init ! 10 refl (EL.lawful S.the-type S′.the-laws 𝓤 H A W tt .typed t _ is .0)) $
         -- `place_after`
-        move ! (2 ∷ []) $ use1 W (‵ Own ⊛ ‵ Own) (LL.copy D (T′.the-copy (α κ′)) 𝓤 H A W .twice h (mach ∷ [])) $ split ! $ move ! (0 ∷ 3 ∷ []) $ use2 W (raw (AfterAt 𝓤 H A at-mem run .pre to-after)) goes-after $
-        calls-at ! fm (AfterAt 𝓤 H A at-mem run) known-after to-after (and-then ! (load ! (from ! (stop !)) (look ! 14 refl)) (and-then ! (load ! (from ! (stop !)) (look ! 12 refl)) (no-more !))) (λ w.
-        use1 W (later (some (λ (n : ℕ). ((‵ (flft κ′ q′) ⊛ ‵ ftrue) ⊛ ‵ (usize .own n (w ∷ []))) ⊛ raw (ensured 𝓤 H A aft.ended (aft.clauses 𝓤 H A at-mem run) (κ′, tt) (h .bytes, (h .at, tt)) tt n)))) (id⊢ 𝓤 _) $ await ! tt $ pick ! (λ n.
+        move ! (2 ∷ []) $ use1 W (‵ Own ⊛ ‵ Own) (LL.copy D (T′.the-copy (α κ′)) 𝓤 H A W .twice h (mach ∷ [])) $ split ! $ move ! (0 ∷ 3 ∷ []) $
+        use2 W (raw (AfterAt 𝓤 H A at-mem run .pre to-after)) goes-after $
+        calls-at ! fm (AfterAt 𝓤 H A at-mem run) known-after to-after
+        (and-then ! (load ! (from ! (stop !)) (look ! 14 refl)) (and-then ! (load ! (from ! (stop !)) (look ! 12 refl)) (no-more !))) (λ w.
+        use1 W (later (some (λ (n : ℕ). ((‵ (flft κ′ q′) ⊛ ‵ ftrue) ⊛ ‵ (usize .own n (w ∷ []))) ⊛ raw
+        (ensured 𝓤 H A aft.ended (aft.clauses 𝓤 H A at-mem run) (κ′, tt) (h .bytes, (h .at, tt)) tt n)))) (id⊢ 𝓤 _) $ await ! tt $ pick ! (λ n.
         split ! $ move ! (1 ∷ []) $ use1 W (raw (fact 𝓤 (Moved n))) (after-said n) $ heard ! (Moved n) (λ m. split ! $ move ! (1 ∷ []) $
         peeks ! usize (Is usize) (shows 𝓤 H A usize) n (w ∷ []) (λ is′.
-        land ! (from ! (stop !)) (init ! 9 refl (uint-lawful 𝓤 H A W w64 .typed n _ is′ .0)) $ rewrite ! 9 (λ (z : Val). ‵ (fat fullShare (tyInt w64) l₅ 0 z)) (ap only (is′ .0)) refl $ drop ! $
+        land ! (from ! (stop !)) (init ! 9 refl (uint-lawful 𝓤 H A W w64 .typed n _ is′ .0)) $
+        rewrite ! 9 (λ (z : Val). ‵ (fat fullShare (tyInt w64) l₅ 0 z)) (ap only (is′ .0)) refl $ drop ! $
         -- ['a's token; what the Reader owns; the request; the struct's cell; the open borrow; obs; auth; true; _5; …]
-        assigns ! (of-opd ! (load ! (from ! (stop !)) (look ! 8 refl))) (from ! (hop ! (look ! 16 refl) (fld ! refl (stop !)))) (store-in ! 3 (sub ! 1 refl (whole !)) (tt, record { fits = is′ .1 })) $
-        assigns ! (of-opd ! (load ! (from ! (stop !)) (look ! 10 refl))) (from ! (stop !)) (init ! 18 refl (EL.lawful S.the-type S′.the-laws 𝓤 H A W tt .typed t _ is .0)) $
+        assigns ! (of-opd ! (load ! (from ! (stop !)) (look ! 8 refl))) (from ! (hop ! (look ! 16 refl) (fld ! refl (stop !))))
+        (store-in ! 3 (sub ! 1 refl (whole !)) (tt, record { fits = is′ .1 })) $
+        assigns ! (of-opd ! (load ! (from ! (stop !)) (look ! 10 refl))) (from ! (stop !))
+        (init ! 18 refl (EL.lawful S.the-type S′.the-laws 𝓤 H A W tt .typed t _ is .0)) $
         -- the borrow is closed at the new place
         move ! (1 ∷ []) $ use1 W (‵ (B κ′ .own (h′ n) (T′.lowered (h′ n) ∷ []))) (again n (is′ .1)) $
-        move ! (3 ∷ []) $ use1 W (‵ (cellAt fullShare (B κ′ .mir) (T′.lowered (h′ n) ∷ []) b o)) (W .laws .at-raw fullShare (T′.mir erased) b o (T′.lowered (h′ n))) $
+        move ! (3 ∷ []) $ use1 W (‵ (cellAt fullShare (B κ′ .mir) (T′.lowered (h′ n) ∷ []) b o))
+        (W .laws .at-raw fullShare (T′.mir erased) b o (T′.lowered (h′ n))) $
         move ! (0 ∷ 1 ∷ 4 ∷ 5 ∷ 6 ∷ []) $ closes ! tt (B κ′) (h′ n) (T′.lowered (h′ n) ∷ []) b o $
         returns ! (look ! 16 refl) $ forget ! 6 refl $ forget ! 8 refl $ forget ! 10 refl $ forget ! 12 refl $ forget ! 14 refl $ forget ! 16 refl $
-        move ! (16 ∷ 17 ∷ []) $ free1 ! $ move ! (14 ∷ 15 ∷ []) $ free1 ! $ move ! (12 ∷ 13 ∷ []) $ free1 ! $ move ! (10 ∷ 11 ∷ []) $ free1 ! $ move ! (8 ∷ 9 ∷ []) $ free1 ! $ move ! (6 ∷ 7 ∷ []) $ free1 ! $ free0 ! $
+        move ! (16 ∷ 17 ∷ []) $ free1 ! $ move ! (14 ∷ 15 ∷ []) $ free1 ! $ move ! (12 ∷ 13 ∷ []) $ free1 ! $ move ! (10 ∷ 11 ∷ []) $ free1 ! $
+        move ! (8 ∷ 9 ∷ []) $ free1 ! $ move ! (6 ∷ 7 ∷ []) $ free1 ! $ free0 ! $
         keep ! (0 ∷ 1 ∷ 2 ∷ 3 ∷ 4 ∷ []) $ by ! (exits t u n e m)))))))))))))))))
 
 module _ {M : Type 1} (𝓤 : URA M) (H : Heap 𝓤) (A : Atoms 𝓤) (W : Given 𝓤 H A) (mem′ : Memory → SProp 𝓤) (run : Routine → Fun 𝓤) where
-  taken-walks : (C : Calls 𝓤 H) (Λ : Loops 𝓤 H) → FmC 𝓤 H (W .laws) C → Triple 𝓤 (C #request·next-request) (StepAt 𝓤 H A mem′ run) → Triple 𝓤 (C #request·place-after) (AfterAt 𝓤 H A mem′ run)
+  taken-walks : (C : Calls 𝓤 H) (Λ : Loops 𝓤 H) → FmC 𝓤 H (W .laws) C → Triple 𝓤 (C #request·next-request) (StepAt 𝓤 H A mem′ run)
+      → Triple 𝓤 (C #request·place-after) (AfterAt 𝓤 H A mem′ run)
       → Walks 𝓤 H A taken.ended stayed (WpFn 𝓤 H C Λ code.function) (taken.clauses 𝓤 H A mem′ run)
-  taken-walks C Λ fm known-step known-after = walked 𝓤 H A taken.ended stayed (taken.clauses 𝓤 H A mem′ run) (WpFn 𝓤 H C Λ code.function) (λ κs. (ptr-vals, tt)) (λ κs. (mut-tells (named 0) (κs .0) (B (κs .1 .0)), tt))
-      (λ κs qs bounds a g are. via 𝓤 _ (fst∗ 𝓤 _ (emp 𝓤)) (walk 𝓤 H A W mem′ run (κs .0) (κs .1 .0) (qs .0) (qs .1 .0) bounds (a .0 .ptr .0) (a .0 .ptr .1) (a .0 .name) (a .0 .now) C Λ fm known-step known-after))
+  taken-walks C Λ fm known-step known-after = walked 𝓤 H A taken.ended stayed (taken.clauses 𝓤 H A mem′ run) (WpFn 𝓤 H C Λ code.function)
+      (λ κs. (ptr-vals, tt)) (λ κs. (mut-tells (named 0) (κs .0) (B (κs .1 .0)), tt))
+      (λ κs qs bounds a g are. via 𝓤 _ (fst∗ 𝓤 _ (emp 𝓤)) (walk 𝓤 H A W mem′ run (κs .0) (κs .1 .0) (qs .0) (qs .1 .0) bounds (a .0 .ptr .0)
+      (a .0 .ptr .1) (a .0 .name) (a .0 .now) C Λ fm known-step known-after))
 
 taken-meets : {M : Type 1} (𝓤 : URA M) (H : Heap 𝓤) (A : Atoms 𝓤) (W : Given 𝓤 H A) (mem′ : Memory → SProp 𝓤) (run : Routine → Fun 𝓤) (𝓣 : Tables 𝓤 H)
     → Triple 𝓤 (𝓣 .C #request·next-request) (StepAt 𝓤 H A mem′ run) → Triple 𝓤 (𝓣 .C #request·place-after) (AfterAt 𝓤 H A mem′ run)
     → Meets 𝓤 H A taken.signature (WpFn 𝓤 H (𝓣 .C) (𝓣 .Λ) code.function) (taken.spec 𝓤 H A mem′ run)
 taken-meets 𝓤 H A W mem′ run 𝓣 known-step known-after =
     walk-meets 𝓤 H A taken.ended stayed W (goes-ref 𝓤 H A W 2 0 tt behind, tt) (taken.clauses 𝓤 H A mem′ run)
-    (WpFn 𝓤 H (𝓣 .C) (𝓣 .Λ) code.function) (WpFn-mono 𝓤 H (W .laws) 𝓣 code.function) (taken-walks 𝓤 H A W mem′ run (𝓣 .C) (𝓣 .Λ) (fmOf 𝓤 H (W .laws) 𝓣) known-step known-after)
+    (WpFn 𝓤 H (𝓣 .C) (𝓣 .Λ) code.function) (WpFn-mono 𝓤 H (W .laws) 𝓣 code.function)
+    (taken-walks 𝓤 H A W mem′ run (𝓣 .C) (𝓣 .Λ) (fmOf 𝓤 H (W .laws) 𝓣) known-step known-after)
 
 pub take-request-spec : {M : Type 1} → stated.statement M
 unfolding code.routine tablesOf
@@ -218,5 +246,7 @@ take-request-spec 𝓤 H 𝓜 𝓖 𝓡 =
     entered 𝓤 H (tripleOf 𝓤 H (𝓖 .A) taken.signature (taken.spec 𝓤 H (𝓖 .A) (𝓜 .mem) (𝓡 .run)))
     (tables 𝓤 H 𝓜 𝓡 code.env .C) (tables 𝓤 H 𝓜 𝓡 code.env .Λ) #reader·take-request code.function (code.unfolded 𝓤 H 𝓜 𝓡)
     (taken-meets 𝓤 H (𝓖 .A) (givenOf 𝓤 H 𝓜 𝓖) (𝓜 .mem) (𝓡 .run) (tablesOf 𝓤 H 𝓜 (tables 𝓤 H 𝓜 𝓡 code.env))
-    (cited 𝓤 H (StepAt 𝓤 H (𝓖 .A) (𝓜 .mem) (𝓡 .run)) 𝓜 𝓡 code.env #request·next-request step-def.routine code.calls-request·next-request (step-thm.met 𝓤 H 𝓜 𝓖 𝓡))
-    (cited 𝓤 H (AfterAt 𝓤 H (𝓖 .A) (𝓜 .mem) (𝓡 .run)) 𝓜 𝓡 code.env #request·place-after aft-def.routine code.calls-request·place-after (aft-thm.met 𝓤 H 𝓜 𝓖 𝓡)))
+    (cited 𝓤 H (StepAt 𝓤 H (𝓖 .A) (𝓜 .mem) (𝓡 .run)) 𝓜 𝓡 code.env #request·next-request step-def.routine code.calls-request·next-request
+    (step-thm.met 𝓤 H 𝓜 𝓖 𝓡))
+    (cited 𝓤 H (AfterAt 𝓤 H (𝓖 .A) (𝓜 .mem) (𝓡 .run)) 𝓜 𝓡 code.env #request·place-after aft-def.routine code.calls-request·place-after
+    (aft-thm.met 𝓤 H 𝓜 𝓖 𝓡)))

@@ -1,10 +1,10 @@
-//! The done slot: every sequence of five calls on it, ours beside the Rust, which panics where document 01 gives 12 and 13.
+//! The done slot: every sequence of four calls on it, ours beside the Rust, which panics where document 01 gives 12 and 13.
 
 use super::count::{Compared, Count};
 use cattlecleat::raw;
 use oracle::leaves::{DoneSlot, Reason};
 
-const CALLS: u32 = 5;
+const CALLS: u32 = 4;
 
 /// A reason to fill the slot with; none is a take.
 const ALPHABET: [Option<Reason>; 9] = [

@@ -8,8 +8,8 @@ use crate::{leaves, mission};
 
 const SEED: u64 = 8;
 /// So many requests in random traces; broken states and trace bytes get their share of it. This sets how long the gate takes.
-const COUNT: u64 = 4_000_000;
-const LENGTH: usize = 4;
+const COUNT: u64 = 1_000_000;
+const LENGTH: usize = 3;
 /// So many different ends in one small world, and its histories are not made longer.
 const ENDS: usize = 100_000;
 

@@ -1,2 +1,3 @@
+mod Decoder
 pub mod Readers
 pub mod Settled

@@ -26,7 +26,7 @@ use denote.RattleType.{RattleType, owns}
 use denote.Laws.{Is, shows}
 use denote.Plain.{uint-makes, uint-vals, uint-tells}
 use denote.Builtin.{u8, usize}
-use denote.Ref.{RefT, NamedLft, now}
+use denote.Ref.{RefT, NamedLft}
 use denote.Signature.{plain, namedLft}
 use denote.Slice.{sliceVal, ShrSlice, slice-vals, shr-slice-tells, shr-slice-lawful, shr-slice-copy}
 use denote.Steps.{owned, peeks, heard, nothing}
@@ -40,7 +40,6 @@ use denote.Triple.Table.{entered, cited}
 use denote.Triple.Walked.{says, Stays, stay-none, stay-none-slice, walkOf, goes-none, goes-none-slice, Walks, ends-at, walked, walk-meets}
 use denote.Exit.{yes}
 use denote.Triple.Clauses.{ensured, lasts}
-use Rattle.request.specs.Walk.{shownNext, nextAt}
 use Rattle.request.specs.declared.Next.{Next}
 use Rattle.request.proofs.Next as S
 use Rattle.request.proofs.Next.Laws as S′
@@ -63,6 +62,7 @@ use Rattle.reader.proofs.advance as adv
 use Rattle.reader.proofs.advance.Symbol as adv-def
 use Rattle.reader.proofs.advance.Symbol.{name as #reader·advance}
 use Rattle.reader.proofs.advance.Met as adv-thm
+use Rattle.reader.proofs.Decoder.{Found}
 use Rattle.reader.proofs.next_two.Key.{name as #reader·next-two}
 use Rattle.reader.proofs.next_two as two
 use Rattle.reader.proofs.next_two.Statement as stated
@@ -138,9 +138,6 @@ module _ {M : Type 1} (𝓤 : URA M) (H : Heap 𝓤) (A : Atoms 𝓤) (W : Given
   goes-hand r u = qed W (‵ (Owned r u) ∷ (‵ (flft κ q) ⊛ ‵ ftrue) ∷ []) ∵ nothing ! $ move ! (1 ∷ 0 ∷ []) $ fjoin ! $ move ! (1 ∷ 0 ∷ []) $ join ! $
       frame ! $ done !
 
-  abbrev Found : Reader → Next → Type 0
-  Found r t = shownNext t ≡ nextAt (now (r .bytes)) (r .at)
-
   hand-said : (r : Reader) (t : Next) → ent 𝓤 (ensured 𝓤 H A hand.ended (hand.clauses 𝓤 H A mem run) (κ, tt) (r, tt) tt t) (fact 𝓤 (Found r t))
   hand-said r t = exE 𝓤 _ (λ ws. snd∗ 𝓤 (sem 𝓤 H A (lasts hand.ended (κ, tt) (r, tt) ws)) (fact 𝓤 (Found r t)))
 
@@ -148,8 +145,7 @@ module _ {M : Type 1} (𝓤 : URA M) (H : Heap 𝓤) (A : Atoms 𝓤) (W : Given
   to-adv r u = (((κ, tt), (q, tt), tt, (r, tt), (u ∷ [], tt)), tt)
 
   goes-adv : (r : Reader) (u : Val) → ent 𝓤 (⋆ 𝓤 H A (‵ (Owned r u) ∷ (‵ (flft κ q) ⊛ ‵ ftrue) ∷ [])) (Adv 𝓤 H A mem run .pre (to-adv r u))
-  goes-adv r u = qed W (‵ (Owned r u) ∷ (‵ (flft κ q) ⊛ ‵ ftrue) ∷ []) ∵ nothing ! $ move ! (1 ∷ 0 ∷ []) $ fjoin ! $ move ! (1 ∷ 0 ∷ []) $ join ! $
-      frame ! $ done !
+  goes-adv = goes-hand
 
   adv-said : (r q′ : Reader) → ent 𝓤 (ensured 𝓤 H A adv.ended (adv.clauses 𝓤 H A mem run) (κ, tt) (r, tt) tt q′) (fact 𝓤 (q′ ≡ passed r))
   adv-said r q′ = exE 𝓤 _ (λ ws. snd∗ 𝓤 (sem 𝓤 H A (lasts adv.ended (κ, tt) (r, tt) ws)) (fact 𝓤 (q′ ≡ passed r)))

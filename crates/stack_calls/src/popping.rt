@@ -3,29 +3,22 @@ ghost use mathlib.Core.Path.{_≡_};
 ghost use Rattle.rules.specs.declared.Request.the-variants.{Pop};
 ghost use Rattle.rules.specs.declared.Asked.the-variants.{Traced};
 ghost use Rattle.rules.specs.World.{worldOf};
-ghost use Rattle.rules.specs.Answers.{shownAnswer, shownJudgement, judged, shownOutcome};
-ghost use Rattle.rules.specs.Returns.{instanceAfter, returnedTo, popTests, popRoom, popped};
+ghost use Rattle.rules.specs.Answers.{shownJudgement, judged, shownOutcome};
+ghost use Rattle.rules.specs.Returns.{popTests, popRoom, popped};
 ghost use Rattle.rules.specs.Rules.{answered};
-use cells::HostFrame;
-use frames::Row;
-use frames::debt_of;
 use frames::read_row;
-use given::Given;
-use given::given_number;
-use given::or_else;
-use regs::Registers;
-use rules::Answer;
 use rules::Judgement;
 use rules::Outcome;
 use rules::Refusal;
 use rules::Room;
 use rules::State;
-use rules::Values;
 use stack::from_top;
+use stack::instance_after;
 use stack::is_broken_next;
 use stack::moved_state;
 use stack::no_host;
 use stack::refused;
+use stack::returned_to;
 use stack::top_start;
 
 // Whether a pop is refused: 9, 4.
@@ -74,33 +67,4 @@ pub fn popped_in(s: State, words: &[u64], cells: &[u64], instance: u64, room: Ro
         answer: returned_to(count, top, next, instance, no_host()),
         state: moved_state(s, room.count, instance_after(s, top), room.len),
     }
-}
-
-// What a return from the newest of `count` frames answers, with the host frame that goes with it.
-pub fn returned_to(count: usize, top: Row, next: Row, instance: u64, host: HostFrame) -> Answer
-    ensures { λ r. ⌜ shownAnswer r ≡ returnedTo count top next instance host ⌝ }
-{
-    if count == 1 {
-        return Answer::Gone(host);
-    }
-    let woken = or_else(debt_of(top), Given::Value(instance));
-    Answer::Done(Values {
-        offset: next.start as usize,
-        ip: next.ip,
-        instance: given_number(woken),
-        host,
-        regs: Registers::zeroed(),
-    })
-}
-
-// The current instance once the top frame is gone: its debt where it has one. With the last frame the debt is forgotten.
-pub fn instance_after(s: State, top: Row) -> Given
-    ensures { λ r. ⌜ r ≡ instanceAfter s top ⌝ }
-{
-    let frames = s.count;
-    let current = s.current;
-    if frames == 1 {
-        return current;
-    }
-    or_else(debt_of(top), current)
 }

@@ -10,7 +10,7 @@ ghost use Rattle.rules.specs.declared.Asked.the-variants.{Traced};
 ghost use Rattle.rules.specs.World.{worldOf};
 ghost use Rattle.rules.specs.Answers.{roomOf, shownJudgement, judged, shownOutcome};
 ghost use Rattle.rules.specs.Calls.{missingIp, headOfNone, pushTests, pushRoom, pushed};
-ghost use Rattle.rules.specs.Shared.{growthTests, grownTo, strayIp, badCounts};
+ghost use Rattle.rules.specs.Shared.{growthTests, grownTo, badCounts};
 ghost use Rattle.rules.specs.Rules.{answered};
 use frames::new_row;
 use frames::owing;
@@ -26,6 +26,7 @@ use rules::Room;
 use rules::State;
 use stack::at_offset;
 use stack::is_broken_top;
+use stack::is_stray_ip;
 use stack::judge_growth;
 use stack::moved_state;
 use stack::refused;
@@ -74,13 +75,6 @@ fn judge_counts(s: State, q: PushArgs, start: usize, end: usize, count: usize) -
         return Judgement::Refuse(Refusal::BadCounts);
     }
     judge_growth(s, 0 < slots, start, end, count)
-}
-
-// Whether a caller's ip is given without a frame to store it in.
-pub fn is_stray_ip(count: usize, caller: Given) -> bool
-    ensures { λ r. ⌜ r ≡ strayIp count caller ⌝ }
-{
-    is_given(caller) & (count == 0)
 }
 
 // Whether no caller's ip is given over a frame.

@@ -27,6 +27,7 @@ use rules::Room;
 use rules::State;
 use stack::at_offset;
 use stack::from_top;
+use stack::is_beyond;
 use stack::is_broken_top;
 use stack::judge_growth;
 use stack::moved_state;
@@ -80,14 +81,6 @@ fn judge_far(some: bool, len: usize, room: Room, far: usize) -> Judgement
         return Judgement::Refuse(Refusal::BeyondLen);
     }
     Judgement::Accept(room)
-}
-
-// Whether the parameters end beyond `len`, where the request has cells to look for; with params 0 too. Note: replace asks it of the new `len`,
-// return-host of the one before growth.
-pub fn is_beyond(some: bool, len: usize, end: usize) -> bool
-    ensures { λ r. ⌜ r ≡ beyondLen some len end ⌝ }
-{
-    some & (len < end)
 }
 
 // Calls in place of the newest frame: the offset is its start.

@@ -18,15 +18,15 @@ use rules::ReturnHostArgs;
 use rules::Room;
 use rules::State;
 use stack::from_top;
+use stack::instance_after;
+use stack::is_beyond;
 use stack::is_broken_next;
 use stack::judge_growth;
 use stack::moved_state;
 use stack::no_host;
 use stack::refused;
+use stack::returned_to;
 use stack::top_start;
-use stack_calls::instance_after;
-use stack_calls::is_beyond;
-use stack_calls::returned_to;
 
 // Whether a return-host is refused: 9, 4, 7, 2, 3. Note: 7 looks at `len` before growth, where replace looks at it after.
 pub fn judge_return_host(s: State, words: &[u64], cells: &[u64], q: ReturnHostArgs) -> Judgement

@@ -1,17 +1,23 @@
-// What calls and hosts share: two causes of refusal, and what a return answers and wakes.
+// What calls and hosts share: two causes of refusal, and the return ('pop as above').
 ghost use mathlib.Core.Path.{_≡_};
-ghost use Rattle.rules.specs.Answers.{shownAnswer};
-ghost use Rattle.rules.specs.Returns.{instanceAfter, returnedTo};
+ghost use Rattle.rules.specs.World.{worldOf};
+ghost use Rattle.rules.specs.Answers.{shownAnswer, shownOutcome};
+ghost use Rattle.rules.specs.Returns.{instanceAfter, returnedTo, returned};
 ghost use Rattle.rules.specs.Shared.{strayIp, beyondLen};
+use crate::answer::moved_state;
+use crate::look::from_top;
 use cells::HostFrame;
 use frames::Row;
 use frames::debt_of;
+use frames::read_row;
 use given::Given;
 use given::given_number;
 use given::is_given;
 use given::or_else;
 use regs::Registers;
 use rules::Answer;
+use rules::Outcome;
+use rules::Room;
 use rules::State;
 use rules::Values;
 
@@ -30,8 +36,30 @@ pub fn is_beyond(some: bool, len: usize, end: usize) -> bool
     some & (len < end)
 }
 
+// The step of a return, in the room that was judged: the newest frame goes, and the host frame given is answered with it. No cell is written here.
+pub fn returned_in(
+    s: State,
+    words: &[u64],
+    cells: &[u64],
+    instance: u64,
+    host: HostFrame,
+    room: Room,
+) -> Outcome
+    ensures { λ r. ⌜ shownOutcome r (now (words .entry)) (now (cells .entry))
+        ≡ returned (worldOf s (now (words .entry)) (now (cells .entry))) instance host room (now (cells .entry)) ⌝ }
+{
+    let depth = s.depth;
+    let count = s.count;
+    let top = read_row(words, depth, from_top(count, 1));
+    let next = read_row(words, depth, from_top(count, 2));
+    Outcome {
+        answer: returned_to(count, top, next, instance, host),
+        state: moved_state(s, room.count, instance_after(s, top), room.len),
+    }
+}
+
 // What a return from the newest of `count` frames answers, with the host frame that goes with it.
-pub fn returned_to(count: usize, top: Row, next: Row, instance: u64, host: HostFrame) -> Answer
+fn returned_to(count: usize, top: Row, next: Row, instance: u64, host: HostFrame) -> Answer
     ensures { λ r. ⌜ shownAnswer r ≡ returnedTo count top next instance host ⌝ }
 {
     if count == 1 {
@@ -48,7 +76,7 @@ pub fn returned_to(count: usize, top: Row, next: Row, instance: u64, host: HostF
 }
 
 // The current instance once the top frame is gone: its debt where it has one. With the last frame the debt is forgotten.
-pub fn instance_after(s: State, top: Row) -> Given
+fn instance_after(s: State, top: Row) -> Given
     ensures { λ r. ⌜ r ≡ instanceAfter s top ⌝ }
 {
     let frames = s.count;

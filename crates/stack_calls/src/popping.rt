@@ -6,19 +6,15 @@ ghost use Rattle.rules.specs.World.{worldOf};
 ghost use Rattle.rules.specs.Answers.{shownJudgement, judged, shownOutcome};
 ghost use Rattle.rules.specs.Returns.{popTests, popRoom, popped};
 ghost use Rattle.rules.specs.Rules.{answered};
-use frames::read_row;
 use rules::Judgement;
 use rules::Outcome;
 use rules::Refusal;
 use rules::Room;
 use rules::State;
-use stack::from_top;
-use stack::instance_after;
 use stack::is_broken_next;
-use stack::moved_state;
 use stack::no_host;
 use stack::refused;
-use stack::returned_to;
+use stack::returned_in;
 use stack::top_start;
 
 // Whether a pop is refused: 9, 4.
@@ -59,12 +55,5 @@ pub fn pop_frame(s: State, words: &[u64], cells: &[u64], instance: u64) -> Outco
 pub fn popped_in(s: State, words: &[u64], cells: &[u64], instance: u64, room: Room) -> Outcome
     ensures { λ r. ⌜ shownOutcome r (now (words .entry)) (now (cells .entry)) ≡ popped (worldOf s (now (words .entry)) (now (cells .entry))) instance room ⌝ }
 {
-    let depth = s.depth;
-    let count = s.count;
-    let top = read_row(words, depth, from_top(count, 1));
-    let next = read_row(words, depth, from_top(count, 2));
-    Outcome {
-        answer: returned_to(count, top, next, instance, no_host()),
-        state: moved_state(s, room.count, instance_after(s, top), room.len),
-    }
+    returned_in(s, words, cells, instance, no_host(), room)
 }

@@ -10,22 +10,18 @@ ghost use Rattle.rules.specs.Hosts.{isSized, returnHostTests, returnHostRoom, r
 ghost use Rattle.rules.specs.Rules.{answered};
 use cells::HostFrame;
 use cells::host_size;
-use frames::read_row;
 use rules::Judgement;
 use rules::Outcome;
 use rules::Refusal;
 use rules::ReturnHostArgs;
 use rules::Room;
 use rules::State;
-use stack::from_top;
-use stack::instance_after;
 use stack::is_beyond;
 use stack::is_broken_next;
 use stack::judge_growth;
-use stack::moved_state;
 use stack::no_host;
 use stack::refused;
-use stack::returned_to;
+use stack::returned_in;
 use stack::top_start;
 
 // Whether a return-host is refused: 9, 4, 7, 2, 3. Note: 7 looks at `len` before growth, where replace looks at it after.
@@ -89,20 +85,13 @@ pub fn returned_host_in(
 ) -> Outcome
     ensures { λ r. ⌜ shownOutcome r (now (words .entry)) (now (cells .exit)) ≡ returnedHost (worldOf s (now (words .entry)) (now (cells .entry))) q room ⌝ }
 {
-    let depth = s.depth;
-    let count = s.count;
     let params = q.params;
     let results = q.results;
     let start = room.start;
-    let top = read_row(words, depth, from_top(count, 1));
-    let next = read_row(words, depth, from_top(count, 2));
     let some = is_sized(params, results);
     let host = host_frame(some, start, room.end, params, results);
     return_host_cells(cells, some, s.len, room.len, start, q.head, params);
-    Outcome {
-        answer: returned_to(count, top, next, q.instance, host),
-        state: moved_state(s, room.count, instance_after(s, top), room.len),
-    }
+    returned_in(s, words, cells, q.instance, host, room)
 }
 
 // The host's frame, of zeros where it has no cells.

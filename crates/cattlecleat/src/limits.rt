@@ -1,4 +1,6 @@
 // Document 01's numbers for the program, and the sizes of its two blocks.
+use lines::LONGEST_LINE;
+use record::RECORD_SIZE;
 
 // M in bytes, D in frames, and the fuel.
 pub const HEIGHT: usize = 32768;
@@ -12,10 +14,12 @@ pub const WORDS: usize = 256;
 
 pub const CELLS: usize = 4096;
 
-// A block of input is 1,600 whole records, and a block of text has room for as many of the longest lines.
-pub const BLOCK: usize = 64000;
+// How many whole records a block of input is; a block of text has room for as many of the longest lines.
+const RECORDS: usize = 1600;
 
-pub const TEXT: usize = 168000;
+pub const BLOCK: usize = RECORDS * RECORD_SIZE;
 
-// More blocks than the fuel can last: 1,600 records cost at least as much fuel.
-pub const BLOCKS: u32 = 626;
+pub const TEXT: usize = RECORDS * LONGEST_LINE;
+
+// More blocks than the fuel can last: a record costs at least 1, so a full block at least RECORDS.
+pub const BLOCKS: u64 = FUEL / RECORDS as u64 + 1;

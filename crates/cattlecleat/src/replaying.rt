@@ -32,11 +32,13 @@ pub fn run() {
     replay_input(&mut words, &mut cells, &mut block, &mut text);
 }
 
-// Every record costs fuel, so the run has stopped when BLOCKS blocks are through.
+// The fuel does not last for BLOCKS full blocks, so one of them is the last; were it not, that is said.
 fn replay_input(words: &mut [u64], cells: &mut [u64], block: &mut [u8], text: &mut [u8]) {
     let opened = open(HEIGHT, DEPTH, words, cells);
     let mut run = start(opened.state, FUEL);
-    for _ in 0..BLOCKS {
+    let mut left = BLOCKS;
+    while 0 < left {
+        left = left - 1;
         match replay_block(run, words, cells, block, text) {
             Went::On(next) => {
                 run = next;
@@ -50,6 +52,7 @@ fn replay_input(words: &mut [u64], cells: &mut [u64], block: &mut [u8], text: &m
             }
         }
     }
+    say::unfinished();
 }
 
 fn replay_block(

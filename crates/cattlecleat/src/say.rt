@@ -41,6 +41,13 @@ pub fn unwritable() {
     );
 }
 
+pub fn unfinished() {
+    io::write_all(
+        STDERR_FILENO,
+        b"cattlecleat: more blocks were run than the fuel lasts for; the listing ends here\n",
+    );
+}
+
 // The first bytes of a text, on standard output.
 pub fn listing(text: &[u8], used: usize) -> bool {
     let end = least(used, text.len());

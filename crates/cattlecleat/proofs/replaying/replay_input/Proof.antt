@@ -1,6 +1,4 @@
--- `cattlecleat::replaying::replay_input` is safe and ends. The invariant of its loop: each buffer keeps its length, and the count is at most its end.
--- Assumes nothing.
-use Prim.Native.Nat.{_≤_, _-_}
+-- `cattlecleat::replaying::replay_input` is safe and ends. The invariant of its loop: each buffer keeps its length. Assumes nothing.
 use mathlib.Core.Path.{_≡_}
 use borrow.Author.Needs.{needs}
 use lib.ListN.{length}
@@ -8,10 +6,11 @@ use Rattle.cattlecleat.proofs.replaying.replay_input.Statement.{stateme
 use Rattle.cattlecleat.proofs.replaying.replay_input.Tie as tie
 
 abbrev Inv-loop : tie.InvT-loop
-Inv-loop words₀ cells₀ block₀ text₀ run₀ counter₀ words cells block text run counter = (length words ≡ length words₀) × (length cells ≡ length cells₀) × (length block ≡ length block₀) × (length text ≡ length text₀) × (counter ≤ 626)
+Inv-loop words₀ cells₀ block₀ text₀ run₀ left₀ words cells block text run left =
+    (length words ≡ length words₀) × (length cells ≡ length cells₀) × (length block ≡ length block₀) × (length text ≡ length text₀)
 
 abbrev μ-loop : tie.MeasureT-loop
-μ-loop words₀ cells₀ block₀ text₀ run₀ counter₀ words cells block text run counter = 626 - counter
+μ-loop words₀ cells₀ block₀ text₀ run₀ left₀ words cells block text run left = left
 
 pub replay-input-spec : {M : Type 1} → statement M
 replay-input-spec =
@@ -22,14 +21,13 @@ replay-input-spec =
     (λ c κs. search needs)
     (λ c κs. search needs)
     (λ c. search needs)
-    (λ c κs. search needs)
-    (λ c. search needs)
     (λ c. search needs)
     (λ c κs. search needs)
     (λ c. search needs)
     (λ c. search needs)
     (λ c. search needs)
     (λ c. search needs)
+    (λ c κs. search needs)
     (λ c. search needs)
     (λ c. search needs)
     (λ c. search needs)
@@ -40,6 +38,8 @@ replay-input-spec =
     (λ c. search needs)
     (λ c. search needs)
     (λ c. search needs)
+    (λ c. search needs)
+    (λ c κs. search needs)
     (λ c. search needs)
     (λ c. search needs)
     (λ c. search needs)

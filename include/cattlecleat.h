@@ -9,9 +9,10 @@
  *   - two buffers of one call do not overlap.
  * Every state, request, number, byte and content of a buffer gets an answer. Nothing is kept between calls, and no memory is allocated.
  *
- * The state goes in by value and comes back with the answer. Frames lie in `words`, four words per frame, oldest first: ip, start, debt
- * flag (0 or 1) and debt instance. In a struct, a flag of 0 reads as none whatever the number beside it, any other as given. A refusal
- * hands state and slot back number for number as they came; else a flag that comes back is 0 or 1, and a 0 stands beside a 0.
+ * The state goes in by value and comes back with the answer. Frames lie in `words`, CATTLECLEAT_FRAME_WORDS words per frame, oldest first:
+ * ip, start, debt flag (0 or 1) and debt instance. In a struct, a flag of 0 reads as none whatever the number beside it, any other as
+ * given. A refusal hands state and slot back number for number as they came; else a flag that comes back is 0 or 1, and a 0 stands beside
+ * a 0.
  *
  * Answer numbers. On 2 and above the state, the done slot and all buffers are unchanged, and every other number handed back is 0.
  *    0  done
@@ -23,8 +24,8 @@
  *    6  push without caller ip over a frame
  *    7  parameters (or a set cell) lie beyond `len`
  *    8  restore without current instance
- *    9  lent lengths differ from the state's, a limit is broken, 4 D exceeds the frame words, count > D, `len` above L or M, or a frame
- *       read has start > `len`, a flag above 1, or flag 0 with a nonzero instance
+ *    9  lent lengths differ from the state's, a limit is broken, CATTLECLEAT_FRAME_WORDS * D exceeds the frame words, count > D, `len` above
+ *       L or M, or a frame read has start > `len`, a flag above 1, or flag 0 with a nonzero instance
  *   10  trace record that breaks the rules of its kind, or fewer than 40 bytes for it; a request of no kind
  *   11  host frame with end above `len`, end below start, or end minus start not max(params, results)
  *   12  done slot already filled
@@ -43,6 +44,9 @@
 #ifdef __cplusplus
 extern "C" {
 #endif
+
+/* The words of a frame. */
+#define CATTLECLEAT_FRAME_WORDS 4
 
 /* The bytes of a trace record. */
 #define CATTLECLEAT_RECORD_BYTES 40
@@ -179,7 +183,8 @@ typedef struct cattlecleat_done {
 } cattlecleat_done;
 
 /* Opens a stack without frame or instance, `len` and registers 0, touching no buffer. The height limit is given in bytes and divided by 8
- * rounding down; the depth limit is in frames, and at least 4 words are lent for each. Answers 0; 14 with a state of zeros. */
+ * rounding down; the depth limit is in frames, and at least CATTLECLEAT_FRAME_WORDS words are lent for each. Answers 0; 14 with a state of
+ * zeros. */
 cattlecleat_answer cattlecleat_open(size_t bytes, size_t depth, const uint64_t *words, size_t words_len, const uint64_t *cells,
                                     size_t cells_len);
 

@@ -6,7 +6,7 @@
 #include <string.h>
 
 #define DEPTH 64
-#define WORDS (4 * DEPTH)
+#define WORDS (CATTLECLEAT_FRAME_WORDS * DEPTH)
 #define CELLS 4096
 #define RECORDS 5
 
@@ -117,7 +117,7 @@ static void check_example(void) {
 
 /* K2. */
 static void check_call_and_return(void) {
-    const uint64_t rows[8] = {101, 0, 0, 0, 200, 2, 1, 1};
+    const uint64_t rows[2 * CATTLECLEAT_FRAME_WORDS] = {101, 0, 0, 0, 200, 2, 1, 1};
     open_world();
     ask(P);
     ask(Q);

@@ -76,9 +76,9 @@ impl<W: AsRef<[u64]> + AsMut<[u64]>, C: AsRef<[u64]> + AsMut<[u64]>> Stack<W, C>
     /// Refusals, in this order: 9, 2 (depth), 4 or 6, 5, 2, 3.
     ///
     /// ```
-    /// use cattlecleat::{Limits, PushArgs, Refusal, Stack};
+    /// use cattlecleat::{FRAME_WORDS, Limits, PushArgs, Refusal, Stack};
     ///
-    /// let mut stack = Stack::open(Limits { depth: 3, bytes: 80 }, vec![0; 12], vec![0; 10])?;
+    /// let mut stack = Stack::open(Limits { depth: 3, bytes: 80 }, vec![0; 3 * FRAME_WORDS], vec![0; 10])?;
     /// let first = PushArgs { callee: 100, locals: 2, slots: 4, instance: Some(1), ..PushArgs::default() };
     /// assert_eq!(stack.push_frame(first), Ok(0));
     /// let second = PushArgs { caller: Some(101), callee: 200, head: 4, slots: 7, ..PushArgs::default() };
@@ -96,8 +96,8 @@ impl<W: AsRef<[u64]> + AsMut<[u64]>, C: AsRef<[u64]> + AsMut<[u64]>> Stack<W, C>
     /// Refusals, in this order: 9, 4.
     ///
     /// ```
-    /// # use cattlecleat::{Limits, Popped, PushArgs, Stack};
-    /// # let mut stack = Stack::open(Limits { depth: 3, bytes: 80 }, vec![0; 12], vec![0; 10])?;
+    /// # use cattlecleat::{FRAME_WORDS, Limits, Popped, PushArgs, Stack};
+    /// # let mut stack = Stack::open(Limits { depth: 3, bytes: 80 }, vec![0; 3 * FRAME_WORDS], vec![0; 10])?;
     /// stack.push_frame(PushArgs { callee: 100, slots: 4, instance: Some(1), ..PushArgs::default() })?;
     /// stack.push_frame(PushArgs { caller: Some(101), callee: 200, head: 2, slots: 3, instance: Some(2), ..PushArgs::default() })?;
     /// assert_eq!(stack.pop_frame(2), Ok(Popped::Returned { ip: 101, start: 0, instance: 1 }));
@@ -115,8 +115,8 @@ impl<W: AsRef<[u64]> + AsMut<[u64]>, C: AsRef<[u64]> + AsMut<[u64]>> Stack<W, C>
     /// Refusals, in this order: 9, 4, 5, 2, 3, 7.
     ///
     /// ```
-    /// # use cattlecleat::{Limits, PushArgs, ReplaceArgs, Stack};
-    /// # let mut stack = Stack::open(Limits { depth: 3, bytes: 80 }, vec![0; 12], vec![0; 10])?;
+    /// # use cattlecleat::{FRAME_WORDS, Limits, PushArgs, ReplaceArgs, Stack};
+    /// # let mut stack = Stack::open(Limits { depth: 3, bytes: 80 }, vec![0; 3 * FRAME_WORDS], vec![0; 10])?;
     /// stack.push_frame(PushArgs { callee: 100, slots: 4, ..PushArgs::default() })?;
     /// stack.cells_mut().copy_from_slice(&[5, 6, 7, 8]);
     /// stack.replace_frame(ReplaceArgs { callee: 200, head: 1, params: 2, locals: 3, slots: 4, ..ReplaceArgs::default() })?;
@@ -145,8 +145,8 @@ impl<W: AsRef<[u64]> + AsMut<[u64]>, C: AsRef<[u64]> + AsMut<[u64]>> Stack<W, C>
     /// Refusals, in this order: 9, 4, 7, 2, 3.
     ///
     /// ```
-    /// # use cattlecleat::{Limits, Popped, PushArgs, ReturnHostArgs, Stack};
-    /// # let mut stack = Stack::open(Limits { depth: 3, bytes: 80 }, vec![0; 12], vec![0; 10])?;
+    /// # use cattlecleat::{FRAME_WORDS, Limits, Popped, PushArgs, ReturnHostArgs, Stack};
+    /// # let mut stack = Stack::open(Limits { depth: 3, bytes: 80 }, vec![0; 3 * FRAME_WORDS], vec![0; 10])?;
     /// stack.push_frame(PushArgs { callee: 100, slots: 4, ..PushArgs::default() })?;
     /// stack.set(3, 9)?;
     /// let call = stack.return_prepare_host_frame(ReturnHostArgs { head: 3, params: 1, results: 1, instance: 1 })?;
@@ -175,8 +175,8 @@ impl<W: AsRef<[u64]> + AsMut<[u64]>, C: AsRef<[u64]> + AsMut<[u64]>> Stack<W, C>
     /// Refusals, in this order: 9, 4, 8.
     ///
     /// ```
-    /// # use cattlecleat::{Limits, PushArgs, Refusal, Registers, Stack};
-    /// # let mut stack = Stack::open(Limits { depth: 3, bytes: 80 }, vec![0; 12], vec![0; 10])?;
+    /// # use cattlecleat::{FRAME_WORDS, Limits, PushArgs, Refusal, Registers, Stack};
+    /// # let mut stack = Stack::open(Limits { depth: 3, bytes: 80 }, vec![0; 3 * FRAME_WORDS], vec![0; 10])?;
     /// stack.push_frame(PushArgs { callee: 100, slots: 4, instance: Some(1), ..PushArgs::default() })?;
     /// stack.sync_ip(104)?;
     /// stack.sync_regs(Registers { ireg: 7, freg32: -0.0, freg64: 0.5 })?;

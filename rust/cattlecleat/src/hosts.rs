@@ -14,9 +14,9 @@ impl<W: AsRef<[u64]>, C: AsRef<[u64]>> Stack<W, C> {
     /// Refusals, in this order: 9, 11.
     ///
     /// ```
-    /// use cattlecleat::{HostArgs, Limits, PushArgs, Stack};
+    /// use cattlecleat::{FRAME_WORDS, HostArgs, Limits, PushArgs, Stack};
     ///
-    /// let mut stack = Stack::open(Limits { depth: 3, bytes: 80 }, vec![0; 12], vec![0; 10])?;
+    /// let mut stack = Stack::open(Limits { depth: 3, bytes: 80 }, vec![0; 3 * FRAME_WORDS], vec![0; 10])?;
     /// stack.push_frame(PushArgs { callee: 100, slots: 4, ..PushArgs::default() })?;
     /// stack.set(2, 20)?;
     /// stack.set(3, 22)?;

@@ -8,9 +8,9 @@
 //! Document 01's example, two calls with two instances and three returns:
 //!
 //! ```
-//! use cattlecleat::{Limits, Popped, PushArgs, Refusal, Stack};
+//! use cattlecleat::{FRAME_WORDS, Limits, Popped, PushArgs, Refusal, Stack};
 //!
-//! let mut stack = Stack::open(Limits { depth: 64, bytes: 32_768 }, vec![0; 4 * 64], vec![0; 4096])?;
+//! let mut stack = Stack::open(Limits { depth: 64, bytes: 32_768 }, vec![0; 64 * FRAME_WORDS], vec![0; 4096])?;
 //!
 //! let first = PushArgs { callee: 100, locals: 2, slots: 4, instance: Some(1), ..PushArgs::default() };
 //! assert_eq!(stack.push_frame(first), Ok(0));

@@ -31,13 +31,13 @@ pub struct Frame {
 /// The call stack, over a buffer of frame words and a buffer of cells, both lent (`&mut [u64]`) or owned (`Vec<u64>`).
 ///
 /// ```
-/// use cattlecleat::{Limits, PushArgs, Stack};
+/// use cattlecleat::{FRAME_WORDS, Limits, PushArgs, Stack};
 ///
 /// let limits = Limits { depth: 64, bytes: 32_768 };
-/// let owned = Stack::open(limits, vec![0; 4 * 64], vec![0; 4096])?;
+/// let owned = Stack::open(limits, vec![0; 64 * FRAME_WORDS], vec![0; 4096])?;
 /// assert_eq!((owned.depth(), owned.len(), owned.current()), (0, 0, None));
 ///
-/// let (mut words, mut cells) = ([0; 4 * 64], [7; 4096]);
+/// let (mut words, mut cells) = ([0; 64 * FRAME_WORDS], [7; 4096]);
 /// let mut lent = Stack::open(limits, &mut words, &mut cells)?;
 /// lent.push_frame(PushArgs { callee: 100, locals: 2, slots: 4, ..PushArgs::default() })?;
 /// assert_eq!(lent.cells(), [0, 0, 7, 7]);    // two locals are zeroed; the other slots keep what the buffer held
@@ -57,12 +57,12 @@ impl<W, C> Stack<W, C> {
     /// where they do not fit each other, requests are refused with [`Refusal::Broken`].
     ///
     /// ```
-    /// use cattlecleat::{Limits, Refusal, Stack};
+    /// use cattlecleat::{FRAME_WORDS, Limits, Refusal, Stack};
     ///
-    /// let stack = Stack::open(Limits { depth: 3, bytes: 80 }, vec![0; 12], vec![0; 10])?;
+    /// let stack = Stack::open(Limits { depth: 3, bytes: 80 }, vec![0; 3 * FRAME_WORDS], vec![0; 10])?;
     /// let (state, words, cells) = stack.into_parts();
     /// assert_eq!(Stack::resume(state, words, cells).reset(), Ok(()));
-    /// assert_eq!(Stack::resume(state, vec![0; 12], vec![0; 9]).reset(), Err(Refusal::Broken));
+    /// assert_eq!(Stack::resume(state, vec![0; 3 * FRAME_WORDS], vec![0; 9]).reset(), Err(Refusal::Broken));
     /// # Ok::<(), Refusal>(())
     /// ```
     pub fn resume(state: State, words: W, cells: C) -> Self {
@@ -133,9 +133,9 @@ impl<W: AsRef<[u64]>, C: AsRef<[u64]>> Stack<W, C> {
     /// A frame by its index, the oldest at 0; none from [`depth`](Self::depth) on.
     ///
     /// ```
-    /// use cattlecleat::{Frame, Limits, PushArgs, Stack};
+    /// use cattlecleat::{FRAME_WORDS, Frame, Limits, PushArgs, Stack};
     ///
-    /// let mut stack = Stack::open(Limits { depth: 3, bytes: 80 }, vec![0; 12], vec![0; 10])?;
+    /// let mut stack = Stack::open(Limits { depth: 3, bytes: 80 }, vec![0; 3 * FRAME_WORDS], vec![0; 10])?;
     /// stack.push_frame(PushArgs { callee: 100, slots: 4, instance: Some(1), ..PushArgs::default() })?;
     /// stack.push_frame(PushArgs { caller: Some(101), callee: 200, head: 2, slots: 3, instance: Some(2), ..PushArgs::default() })?;
     /// assert_eq!(stack.frame(0), Some(Frame { ip: 101, start: 0, debt: None }));

@@ -106,11 +106,11 @@ impl<W: AsMut<[u64]>, C: AsMut<[u64]>> Stack<W, C> {
     /// accepted; refused records, bad ones too, cost 1, and the replay goes on.
     ///
     /// ```
-    /// use cattlecleat::{Limits, PushArgs, Replayed, Request, Stack};
+    /// use cattlecleat::{FRAME_WORDS, Limits, PushArgs, Replayed, Request, Stack};
     ///
     /// let first = PushArgs { callee: 100, locals: 2, slots: 4, instance: Some(1), ..PushArgs::default() };
     /// let trace = [Request::Push(first), Request::Pop(1)].map(Request::to_record).concat();
-    /// let mut stack = Stack::open(Limits { depth: 3, bytes: 80 }, vec![0; 12], vec![0; 10])?;
+    /// let mut stack = Stack::open(Limits { depth: 3, bytes: 80 }, vec![0; 3 * FRAME_WORDS], vec![0; 10])?;
     /// assert_eq!(stack.replay(1000, &trace), Replayed { records: 2, spent: 4, stopped: None });
     /// assert_eq!(stack.replay(2, &trace), Replayed { records: 0, spent: 0, stopped: Some(3) });
     /// # Ok::<(), cattlecleat::Refusal>(())

@@ -1,6 +1,6 @@
 //! Document 01's cases at the edges, K1 to K10.
 use crate::world::{MARK, P, Q, after, opened, push_over, refused};
-use cattlecleat::{Frame, HostFrame, Popped, Refusal, ReplaceArgs, Request, ReturnHostArgs, align_relative_to};
+use cattlecleat::{FRAME_WORDS, Frame, HostFrame, Popped, Refusal, ReplaceArgs, Request, ReturnHostArgs, align_relative_to};
 
 const PQ: [Request; 2] = [Request::Push(P), Request::Push(Q)];
 
@@ -21,7 +21,7 @@ fn k2_a_call_into_another_instance_and_back() {
     let (ip, start, instance) = (101, 0, 1);
     assert_eq!(stack.pop_frame(2), Ok(Popped::Returned { ip, start, instance }));
     assert_eq!((stack.current(), stack.len()), (Some(1), 5));
-    assert_eq!((stack.frame(1), stack.words()[4]), (None, 200));
+    assert_eq!((stack.frame(1), stack.words()[FRAME_WORDS]), (None, 200));
 }
 
 #[test]

@@ -1,5 +1,5 @@
 //! Document 01's small world, M 80 bytes, L 10, D 3, with its two pushes P and Q; buffers hold marks, so that a write shows.
-use cattlecleat::{Limits, PushArgs, Refusal, Request, Stack, State};
+use cattlecleat::{FRAME_WORDS, Limits, PushArgs, Refusal, Request, Stack, State};
 
 pub type Owned = Stack<Vec<u64>>;
 
@@ -38,7 +38,7 @@ pub fn push_over(head: u16, slots: u16) -> PushArgs {
 }
 
 pub fn opened(bytes: usize, cells: usize) -> Owned {
-    Stack::open(Limits { depth: 3, bytes }, vec![MARK; 12], vec![MARK; cells]).expect("the limits are small")
+    Stack::open(Limits { depth: 3, bytes }, vec![MARK; 3 * FRAME_WORDS], vec![MARK; cells]).expect("the limits are small")
 }
 
 /// The small world after these requests, all of them accepted.

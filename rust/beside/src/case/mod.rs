@@ -8,6 +8,9 @@ pub use self::rows::{Row, parse, text};
 use crate::plain::{HostFrame, Regs, Replay, Request, State};
 use crate::rng::mix;
 
+/// How many words a frame takes, as the openings count them.
+pub const FRAME_WORDS: u64 = cattlecleat::FRAME_WORDS as u64;
+
 /// Something done to a stack.
 #[derive(Clone, Debug, PartialEq, Eq)]
 pub enum Step {

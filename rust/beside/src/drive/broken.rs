@@ -2,7 +2,7 @@
 
 use super::steps::{self, Mood};
 use super::{Failure, Tally, openings, run};
-use crate::case::{Case, Start, Step};
+use crate::case::{Case, FRAME_WORDS, Start, Step};
 use crate::plain::{HostFrame, State};
 use crate::reading::Reading;
 use crate::rng::Rng;
@@ -59,7 +59,7 @@ fn spoil(rng: &mut Rng, stack: &mut Reading) {
     match rng.below(12) {
         0 => s.depth = wrong(rng, s.depth, 65_536),
         1 => s.height = wrong(rng, s.height, 1_048_576),
-        2 => s.words = wrong(rng, s.words, 4 * (s.depth & 0xffff)),
+        2 => s.words = wrong(rng, s.words, FRAME_WORDS * (s.depth & 0xffff)),
         3 => s.cells = wrong(rng, s.cells, 1_048_576),
         4 => s.count = wrong(rng, s.count, s.depth),
         5 => s.len = wrong(rng, s.len, s.cells.min(s.height)),
@@ -88,7 +88,7 @@ fn wrong_length(rng: &mut Rng, was: usize) -> usize {
 fn spoil_row(rng: &mut Rng, s: State, words: &mut [u64]) {
     let row = s.count.wrapping_sub(1).wrapping_sub(rng.below(3));
     let field = rng.range(1, 3);
-    let at = row.wrapping_mul(4).wrapping_add(field);
+    let at = row.wrapping_mul(FRAME_WORDS).wrapping_add(field);
     let Some(word) = words.get_mut(at as usize) else {
         return;
     };

@@ -1,12 +1,13 @@
 //! The counts of a request, chosen with the state in view: sums that end at, just below and just above each limit.
 
+use crate::case::FRAME_WORDS;
 use crate::plain::Request;
 use crate::reading::Reading;
 use crate::rng::Rng;
 
 /// The newest frame's start, or some number where the words are not as they should be.
 fn top_start(stack: &Reading) -> u64 {
-    let row = stack.state.count.wrapping_sub(1).wrapping_mul(4).wrapping_add(1);
+    let row = stack.state.count.wrapping_sub(1).wrapping_mul(FRAME_WORDS).wrapping_add(1);
     stack
         .words
         .get(row as usize)

@@ -5,7 +5,7 @@
 
 use super::alphabet::alphabet;
 use super::{Failure, Tally, table};
-use crate::case::{Opening, Start, Step};
+use crate::case::{FRAME_WORDS, Opening, Start, Step};
 use crate::party::{Memory, Table};
 use std::collections::HashSet;
 
@@ -32,7 +32,7 @@ fn worlds() -> Vec<Start> {
     let open = |(depth, cells, m): (u64, u64, u64)| Opening {
         bytes: 8 * m + 7,
         depth,
-        words: 4 * depth,
+        words: FRAME_WORDS * depth,
         cells,
         fill: cells,
     };

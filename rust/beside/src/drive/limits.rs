@@ -1,7 +1,7 @@
 //! The three limits of a state, each alone at its end and one above it, over buffers that are long enough: only the limit can refuse.
 
 use super::{Failure, Tally, run};
-use crate::case::{Case, Start, Step};
+use crate::case::{Case, FRAME_WORDS, Start, Step};
 use crate::plain::{HostFrame, KINDS, Regs, Request, State};
 
 const DEPTH: u64 = 65_536;
@@ -26,7 +26,7 @@ pub fn limits() -> Result<Tally, Failure> {
 
 /// Every request once on an empty stack of these sizes.
 fn everything(depth: u64, height: u64, cells: u64) -> Case {
-    let words = 4 * depth;
+    let words = FRAME_WORDS * depth;
     let state = State {
         depth,
         height,

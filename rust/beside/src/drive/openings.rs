@@ -1,6 +1,6 @@
 //! Openings of many sizes, so that every limit is near: M around L, words just enough or not, and now and then beyond what is allowed.
 
-use crate::case::Opening;
+use crate::case::{FRAME_WORDS, Opening};
 use crate::rng::Rng;
 
 pub fn any(rng: &mut Rng) -> Opening {
@@ -9,7 +9,7 @@ pub fn any(rng: &mut Rng) -> Opening {
     let opening = Opening {
         bytes: 8 * height + rng.below(8),
         depth,
-        words: 4 * depth + rng.below(4),
+        words: FRAME_WORDS * depth + rng.below(FRAME_WORDS),
         cells,
         fill: rng.next(),
     };
@@ -47,7 +47,7 @@ fn beyond(rng: &mut Rng, opening: Opening) -> Opening {
         },
         1 => Opening {
             depth: opening.depth + 1,
-            words: (4 * opening.depth + 4).saturating_sub(rng.below(3)),
+            words: (FRAME_WORDS * (opening.depth + 1)).saturating_sub(rng.below(3)),
             ..opening
         },
         2 => Opening {

@@ -2,7 +2,7 @@
 
 use super::count::Compared;
 use super::seat::Seat;
-use crate::case::{Opening, Start, Step, Task};
+use crate::case::{FRAME_WORDS, Opening, Start, Step, Task};
 use crate::plain::{Regs, Replay, Request};
 use crate::reading::{RECORD_BYTES, Reading, replay, write_record};
 use crate::rng::Rng;
@@ -43,7 +43,7 @@ fn start(rng: &mut Rng) -> Start {
     let opening = Opening {
         bytes: (8 * cells + rng.below(20)).saturating_sub(4),
         depth,
-        words: 4 * depth,
+        words: FRAME_WORDS * depth,
         cells,
         fill: rng.next(),
     };

@@ -8,7 +8,7 @@ mod worlds;
 
 use self::climb::{CELLS, Climb, DEPTH};
 use self::worlds::Worlds;
-use crate::case::Opening;
+use crate::case::{FRAME_WORDS, Opening};
 use crate::command::Verdict;
 use crate::command::said::{ready, said};
 
@@ -19,7 +19,7 @@ const MOST_MIB: u64 = 512;
 const LARGEST: Opening = Opening {
     bytes: 8 * CELLS,
     depth: DEPTH,
-    words: 4 * DEPTH,
+    words: FRAME_WORDS * DEPTH,
     cells: CELLS,
     fill: 1,
 };
@@ -44,7 +44,7 @@ fn openings() -> Result<u64, String> {
     let beyond = [
         Opening {
             depth: DEPTH + 1,
-            words: 4 * DEPTH + 4,
+            words: FRAME_WORDS * (DEPTH + 1),
             ..LARGEST
         },
         Opening {
@@ -56,7 +56,7 @@ fn openings() -> Result<u64, String> {
             ..LARGEST
         },
         Opening {
-            words: 4 * DEPTH - 1,
+            words: FRAME_WORDS * DEPTH - 1,
             ..LARGEST
         },
     ];

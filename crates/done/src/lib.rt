@@ -3,6 +3,11 @@
 ghost use mathlib.Core.Path.{_≡_};
 ghost use Rattle.done.specs.Done.{noReason, shownFill, filled, shownTake, taken};
 
+// The numbers of the two refusals: the slot is already filled, and there is nothing to take.
+pub const ALREADY_FILLED: u64 = 12;
+
+pub const NOTHING_TO_TAKE: u64 = 13;
+
 // Why an execution halted. The two errors carry no number.
 pub enum DoneReason {
     Returned(u64),

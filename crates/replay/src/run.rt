@@ -13,6 +13,7 @@ use ask::judge;
 use ask::step_in;
 use given::Given;
 use given::is_given;
+use record::BAD_RECORD;
 use request::Decoded;
 use rules::Judgement;
 use rules::Request;
@@ -70,7 +71,7 @@ pub(crate) fn run_bad(run: Run, words: &[u64], cells: &[u64]) -> Ran
     if is_given(stop) {
         return nothing_ran(run);
     }
-    refused_at(run, words, cells, 10)
+    refused_at(run, words, cells, BAD_RECORD)
 }
 
 // A record that asks for something.

@@ -1,15 +1,15 @@
 // The request that a lawful record says.
-use crate::kinds::HOST;
-use crate::kinds::POP;
-use crate::kinds::PUSH;
-use crate::kinds::REPLACE;
-use crate::kinds::RESET;
-use crate::kinds::RESTORE;
-use crate::kinds::RETURN_HOST;
-use crate::kinds::SYNC;
 use given::Given;
 use given::given_if;
+use record::HOST;
+use record::POP;
+use record::PUSH;
+use record::REPLACE;
+use record::RESET;
+use record::RESTORE;
+use record::RETURN_HOST;
 use record::Record;
+use record::SYNC;
 use rules::HostArgs;
 use rules::PushArgs;
 use rules::ReplaceArgs;

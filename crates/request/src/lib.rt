@@ -1,7 +1,6 @@
 // Requests to and from trace records, and the decoder that walks a lent trace: at a place it hands out a request with the next place.
 mod decode;
 mod encode;
-mod kinds;
 
 use decode::request_in;
 pub use encode::record_of;

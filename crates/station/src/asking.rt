@@ -18,6 +18,7 @@ use crate::state::CState;
 use crate::state::state_from;
 use crate::state::state_to;
 use ask::ask;
+use record::BAD_RECORD;
 use regs::Registers;
 use request::Decoded;
 use stack::no_host;
@@ -52,7 +53,7 @@ pub extern "C" fn cattlecleat_ask(
 {
     match request_from(q) {
         Decoded::Asks(asked) => outcome_told(ask(state_from(s), words, cells, asked), s),
-        Decoded::Bad => host_told(10, no_host(), s),
+        Decoded::Bad => host_told(BAD_RECORD, no_host(), s),
     }
 }
 

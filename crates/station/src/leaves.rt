@@ -4,6 +4,7 @@ ghost use Rattle.regs.specs.Align.{aligned};
 ghost use Rattle.station.specs.Types.{registerFor, signedBits, numberFor};
 ghost use Rattle.station.specs.Told.{alignedTold};
 use regs::Aligned;
+use regs::NO_ADDRESS;
 use regs::align_relative_to;
 use regs::from_bool;
 use regs::from_u8;
@@ -13,6 +14,21 @@ use regs::to_bool;
 use regs::to_u8;
 use regs::to_u16;
 use regs::to_u32;
+
+// The types of numbers; any other is taken as u64.
+const U8: u64 = 1;
+
+const U16: u64 = 2;
+
+const U32: u64 = 3;
+
+const I8: u64 = 5;
+
+const I16: u64 = 6;
+
+const I32: u64 = 7;
+
+const BOOL: u64 = 9;
 
 #[repr(C)]
 pub struct CAligned {
@@ -27,13 +43,13 @@ pub extern "C" fn cattlecleat_to_register(kind: u64, number: u64) -> u64
     ensures { λ r. ⌜ r ≡ registerFor kind number ⌝ }
 {
     match kind {
-        1 => from_u8(to_u8(number)),
-        2 => from_u16(to_u16(number)),
-        3 => from_u32(to_u32(number)),
-        5 => from_u8(to_u8(number)),
-        6 => from_u16(to_u16(number)),
-        7 => from_u32(to_u32(number)),
-        9 => from_bool(to_bool(number)),
+        U8 => from_u8(to_u8(number)),
+        U16 => from_u16(to_u16(number)),
+        U32 => from_u32(to_u32(number)),
+        I8 => from_u8(to_u8(number)),
+        I16 => from_u16(to_u16(number)),
+        I32 => from_u32(to_u32(number)),
+        BOOL => from_bool(to_bool(number)),
         _ => number,
     }
 }
@@ -44,13 +60,13 @@ pub extern "C" fn cattlecleat_from_register(kind: u64, register: u64) -> u64
     ensures { λ r. ⌜ r ≡ numberFor kind register ⌝ }
 {
     match kind {
-        1 => to_u8(register) as u64,
-        2 => to_u16(register) as u64,
-        3 => to_u32(register) as u64,
-        5 => sign_extended(register % 0x100, 0x80, 0xffff_ffff_ffff_ff00),
-        6 => sign_extended(register % 0x1_0000, 0x8000, 0xffff_ffff_ffff_0000),
-        7 => sign_extended(register % 0x1_0000_0000, 0x8000_0000, 0xffff_ffff_0000_0000),
-        9 => from_bool(to_bool(register)),
+        U8 => to_u8(register) as u64,
+        U16 => to_u16(register) as u64,
+        U32 => to_u32(register) as u64,
+        I8 => sign_extended(register % 0x100, 0x80, 0xffff_ffff_ffff_ff00),
+        I16 => sign_extended(register % 0x1_0000, 0x8000, 0xffff_ffff_ffff_0000),
+        I32 => sign_extended(register % 0x1_0000_0000, 0x8000_0000, 0xffff_ffff_0000_0000),
+        BOOL => from_bool(to_bool(register)),
         _ => register,
     }
 }
@@ -73,7 +89,7 @@ pub extern "C" fn cattlecleat_align(ip: u64, base: u64) -> CAligned
     match align_relative_to(ip, base) {
         Aligned::At(address) => CAligned { number: 0, address },
         Aligned::Refused => CAligned {
-            number: 15,
+            number: NO_ADDRESS,
             address: 0,
         },
     }

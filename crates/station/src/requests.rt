@@ -11,6 +11,25 @@ use rules::ReplaceArgs;
 use rules::Request;
 use rules::ReturnHostArgs;
 
+// The kinds, as wide as they cross to C.
+const PUSH: u64 = record::PUSH as u64;
+
+const POP: u64 = record::POP as u64;
+
+const REPLACE: u64 = record::REPLACE as u64;
+
+const HOST: u64 = record::HOST as u64;
+
+const RETURN_HOST: u64 = record::RETURN_HOST as u64;
+
+const SYNC: u64 = record::SYNC as u64;
+
+const RESTORE: u64 = record::RESTORE as u64;
+
+const RESET: u64 = record::RESET as u64;
+
+const SET: u64 = record::SET as u64;
+
 // What the kind does not use is not looked at.
 #[repr(C)]
 pub struct CRequest {
@@ -33,15 +52,15 @@ pub(crate) fn request_from(q: CRequest) -> Decoded
 {
     let kind = q.kind;
     match kind {
-        1 => Decoded::Asks(Request::Push(push_from(q))),
-        2 => Decoded::Asks(Request::Pop(q.instance)),
-        3 => Decoded::Asks(Request::Replace(replace_from(q))),
-        4 => Decoded::Asks(Request::Host(host_from(q))),
-        5 => Decoded::Asks(Request::ReturnHost(return_host_from(q))),
-        6 => Decoded::Asks(Request::Sync(q.caller)),
-        7 => Decoded::Asks(Request::Restore),
-        8 => Decoded::Asks(Request::Reset),
-        9 => Decoded::Asks(Request::Set(q.head, q.callee)),
+        PUSH => Decoded::Asks(Request::Push(push_from(q))),
+        POP => Decoded::Asks(Request::Pop(q.instance)),
+        REPLACE => Decoded::Asks(Request::Replace(replace_from(q))),
+        HOST => Decoded::Asks(Request::Host(host_from(q))),
+        RETURN_HOST => Decoded::Asks(Request::ReturnHost(return_host_from(q))),
+        SYNC => Decoded::Asks(Request::Sync(q.caller)),
+        RESTORE => Decoded::Asks(Request::Restore),
+        RESET => Decoded::Asks(Request::Reset),
+        SET => Decoded::Asks(Request::Set(q.head, q.callee)),
         _ => Decoded::Bad,
     }
 }

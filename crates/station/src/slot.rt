@@ -3,9 +3,11 @@
 ghost use mathlib.Core.Path.{_≡_};
 ghost use Rattle.done.specs.Done.{fillNumber, filled, takeNumber, takeReason, takeValue, taken};
 ghost use Rattle.station.specs.Slots.{reasonSaid, reasonTo, reasonWith, doneWith, slotAfter, slotSaid, slotTo, filledTold, takenTold};
+use done::ALREADY_FILLED;
 use done::DoneReason;
 use done::DoneSlot;
 use done::Fill;
+use done::NOTHING_TO_TAKE;
 use done::Take;
 
 #[repr(C)]
@@ -20,6 +22,15 @@ pub struct CDone {
     pub reason: CReason,
     pub slot: CReason,
 }
+
+// The kinds of reasons; a slot of kind 0 is empty.
+const RETURNED: u64 = 1;
+
+const HOST_ERROR: u64 = 2;
+
+const OUT_OF_FUEL: u64 = 3;
+
+const ERROR: u64 = 4;
 
 const NONE: CReason = CReason { kind: 0, amount: 0 };
 
@@ -45,7 +56,7 @@ fn fill_told(answer: Fill, left: CReason, came: CReason) -> CDone
             slot: left,
         },
         Fill::AlreadyFilled => CDone {
-            number: 12,
+            number: ALREADY_FILLED,
             reason: NONE,
             slot: came,
         },
@@ -73,7 +84,7 @@ fn take_told(answer: Take, left: CReason, came: CReason) -> CDone
             slot: left,
         },
         Take::NothingToTake => CDone {
-            number: 13,
+            number: NOTHING_TO_TAKE,
             reason: NONE,
             slot: came,
         },
@@ -85,9 +96,9 @@ fn reason_from(c: CReason) -> DoneReason
 {
     let kind = c.kind;
     match kind {
-        1 => DoneReason::Returned(c.amount),
-        2 => DoneReason::HostError,
-        3 => DoneReason::OutOfFuel(c.amount),
+        RETURNED => DoneReason::Returned(c.amount),
+        HOST_ERROR => DoneReason::HostError,
+        OUT_OF_FUEL => DoneReason::OutOfFuel(c.amount),
         _ => DoneReason::Error,
     }
 }
@@ -97,15 +108,21 @@ fn reason_to(reason: DoneReason) -> CReason
 {
     match reason {
         DoneReason::Returned(offset) => CReason {
-            kind: 1,
+            kind: RETURNED,
             amount: offset,
         },
-        DoneReason::HostError => CReason { kind: 2, amount: 0 },
+        DoneReason::HostError => CReason {
+            kind: HOST_ERROR,
+            amount: 0,
+        },
         DoneReason::OutOfFuel(needed) => CReason {
-            kind: 3,
+            kind: OUT_OF_FUEL,
             amount: needed,
         },
-        DoneReason::Error => CReason { kind: 4, amount: 0 },
+        DoneReason::Error => CReason {
+            kind: ERROR,
+            amount: 0,
+        },
     }
 }
 

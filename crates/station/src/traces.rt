@@ -14,6 +14,7 @@ use crate::state::state_to;
 use given::given_if;
 use given::given_number;
 use given::is_given;
+use record::BAD_RECORD;
 use record::Read;
 use record::Record;
 use record::Written;
@@ -95,7 +96,7 @@ pub extern "C" fn cattlecleat_read_record(bytes: &[u8], at: usize) -> CRead
             request: request_to(r),
         },
         Read::Bad => CRead {
-            number: 10,
+            number: BAD_RECORD,
             request: request_to(NO_RECORD),
         },
     }
@@ -121,7 +122,7 @@ pub extern "C" fn cattlecleat_write_record(bytes: &mut [u8], at: usize, q: CRequ
 {
     match request_from(q) {
         Decoded::Asks(asked) => written_number(write_request(bytes, at, asked)),
-        Decoded::Bad => 10,
+        Decoded::Bad => BAD_RECORD,
     }
 }
 
@@ -130,6 +131,6 @@ fn written_number(w: Written) -> u64
 {
     match w {
         Written::Done => 0,
-        Written::Bad => 10,
+        Written::Bad => BAD_RECORD,
     }
 }

@@ -159,13 +159,9 @@ pub(crate) fn nothing_ran(run: Run) -> Ran
 fn stopped_before(run: Run, cost: u64) -> Ran
     ensures { λ r. ⌜ r ≡ ranBy (runStopped run cost) 0 0 ⌝ }
 {
-    let state = run.state;
     nothing_ran(Run {
-        state,
-        number: run.number,
-        fuel: run.fuel,
-        spent: run.spent,
         stop: Given::Value(cost),
+        ..run
     })
 }
 
@@ -173,13 +169,11 @@ fn stopped_before(run: Run, cost: u64) -> Ran
 fn went_on(run: Run, state: State, spent: u64, answer: u64, offset: usize) -> Ran
     ensures { λ r. ⌜ r ≡ ranBy (runMoved run state spent) answer offset ⌝ }
 {
-    let stop = run.stop;
     let moved = Run {
         state,
         number: std::num::wrapping_add_u64(run.number, 1),
-        fuel: run.fuel,
         spent,
-        stop,
+        ..run
     };
     Ran {
         run: moved,

@@ -1,5 +1,6 @@
 pub mod Between
 pub mod Bounds
+pub mod Computing
 pub mod Confined
 pub mod GoodStates
 pub mod Judgements

@@ -11,7 +11,8 @@ use Rattle.done.specs.declared.DoneReason.{DoneReason}
 use Rattle.done.specs.declared.DoneSlot.{DoneSlot}
 use Rattle.done.specs.declared.AfterFill.{AfterFill}
 use Rattle.done.specs.declared.AfterTake.{AfterTake}
-use Rattle.done.specs.Done.{isFilled, ShownFill, shownFill, fillTests, fillRefused, fillDone, filled, ShownTake, shownTake, takeTests, takeRefused, takeDone, taken}
+use Rattle.done.specs.Done.{isFilled, ShownFill, shownFill, fillTests, fillRefused, fillDone, filled, ShownTake, shownTake, takeTests}
+use Rattle.done.specs.Done.{takeRefused, takeDone, taken}
 use Rattle.done.proofs.DoneSlot.done_with.Reads as done-with
 use Rattle.done.proofs.DoneSlot.take_done_reason.Reads as take-done-reason
 

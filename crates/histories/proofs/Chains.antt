@@ -20,7 +20,10 @@ use Rattle.rules.specs.Events.{Event, asks, hostWrote, steppedBy, ranThrough}
 use Rattle.rules.specs.Returning.{NeverBelow, KeepToParts, lentBy}
 use Rattle.rules.proofs.Kept.{part-changes-nothing}
 use Rattle.stack_hosts.specs.Routine.{sumStored, hostCalled}
-use Rattle.histories.specs.Chains.{Told, by-push-frame, by-pop-frame, by-replace-frame, by-prepare-host-frame, by-return-prepare-host-frame, by-sync-ip, by-restore-frame, by-reset, by-set, by-sync-regs, by-ask, by-host-inout, RoutineTold, by-call-host, routineWrites, Chain, chain-end, function-called, host-stored, routine-called, ChainKeeps}
+use Rattle.histories.specs.Chains.{Told, by-push-frame, by-pop-frame, by-replace-frame, by-prepare-host-frame}
+use Rattle.histories.specs.Chains.{by-return-prepare-host-frame, by-sync-ip, by-restore-frame, by-reset, by-set, by-sync-regs, by-ask}
+use Rattle.histories.specs.Chains.{by-host-inout, RoutineTold, by-call-host, routineWrites, Chain, chain-end, function-called}
+use Rattle.histories.specs.Chains.{host-stored, routine-called, ChainKeeps}
 
 pub told-answered : {w : World} {a : Asked} {t : After} → Told w a t → t ≡ answered w a
 told-answered (by-push-frame κ a r e p) = p

@@ -56,7 +56,8 @@ pub data Told : World → Asked → After → Type 0 where
   by-reset : (κ : _) (a : _) (r : Outcome) (e : _) → reset.Post κ a r e
       → Told (worldOf (a .0) (now (a .1 .0)) (now (a .1 .1 .0))) (Traced Reset) (shownOutcome r (now (a .1 .0)) (now (a .1 .1 .0)))
   by-set : (κ : _) (a : _) (r : Outcome) (e : _) → set-one.Post κ a r e
-      → Told (worldOf (a .0) (now (a .1 .0)) (now (a .1 .1 .0))) (Traced (Set (a .1 .1 .1 .0) (a .1 .1 .1 .1 .0))) (shownOutcome r (now (a .1 .0)) (now (e .1 .1 .0)))
+      → Told (worldOf (a .0) (now (a .1 .0)) (now (a .1 .1 .0))) (Traced (Set (a .1 .1 .1 .0) (a .1 .1 .1 .1 .0)))
+      (shownOutcome r (now (a .1 .0)) (now (e .1 .1 .0)))
   by-sync-regs : (κ : _) (a : _) (r : Outcome) (e : _) → sync-regs.Post κ a r e
       → Told (worldOf (a .0) (now (a .1 .0)) (now (a .1 .1 .0))) (SyncRegs (a .1 .1 .1 .0)) (shownOutcome r (now (a .1 .0)) (now (a .1 .1 .0)))
   by-ask : (κ : _) (a : _) (r : Outcome) (e : _) → ask-any.Post κ a r e

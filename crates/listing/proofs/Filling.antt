@@ -34,7 +34,8 @@ blockLeft v ds used out = blockOf (ranAll v ds) (used + length (linesText v ds))
 -- ---- a record
 -- a text in front of the rest
 left-behind : (v : Running) (ds : List Decoded) (text : List ℕ) (used : ℕ) (out : List ℕ)
-    → blockOf (ranAll v ds) (used + length (text ++ linesText v ds)) (sets out used (text ++ linesText v ds)) ≡ blockLeft v ds (used + length text) (sets out used text)
+    → blockOf (ranAll v ds) (used + length (text ++ linesText v ds)) (sets out used (text ++ linesText v ds))
+    ≡ blockLeft v ds (used + length text) (sets out used text)
 unfolding blockLeft
 left-behind v ds text used out =
     let more = length-append text (linesText v ds) in
@@ -129,7 +130,8 @@ no-lines v ds used out same none =
 pub stop-left : (v : Running) (ds : List Decoded) (used : ℕ) (out : List ℕ) → isGiven (v .stop) ≡ true → blockLeft v ds used out ≡ blockOf v used out
 stop-left v ds used out e = no-lines v ds used out (stop-stays v ds e) (lines-stopped v e ds)
 
-pub end-left : (v : Running) (bytes : List ℕ) (at used : ℕ) (out : List ℕ) → length bytes ≤ at → blockLeft v (entriesLeft bytes at) used out ≡ blockOf v used out
+pub end-left : (v : Running) (bytes : List ℕ) (at used : ℕ) (out : List ℕ) → length bytes ≤ at
+    → blockLeft v (entriesLeft bytes at) used out ≡ blockOf v used out
 unfolding ranAll linesOf
 end-left v bytes at used out h = ap (λ ds. blockLeft v ds used out) (entries-end bytes at h) ∙ no-lines v [] used out refl refl
 

@@ -41,10 +41,12 @@ module _ (v : Running) (bytes : List ℕ) (at : ℕ) (out : List ℕ) (used : �
         (choose (isGiven (t .turned .run .stop)) (shownText used out) (textPut out used (lineText (lineOf (v .number) (t .turned))))))
         e
 
-    pub step-stopped : isGiven (x .ran .run .stop) ≡ true → stepOf (runningOf (x .ran .run) words cells) (x .next) (shownText used out) ≡ stepListed v bytes at out used
+    pub step-stopped : isGiven (x .ran .run .stop) ≡ true
+        → stepOf (runningOf (x .ran .run) words cells) (x .next) (shownText used out) ≡ stepListed v bytes at out used
     step-stopped s = ap (stepOf (runningOf (x .ran .run) words cells) (x .next)) (chosen-first _ _ _ _ _ s refl) ∙ step-told
 
-    pub step-listed : isGiven (x .ran .run .stop) ≡ false → (text : ShownText) → text ≡ textPut out used (lineText (lineOf (v .number) (shownRan (x .ran) words cells)))
+    pub step-listed : isGiven (x .ran .run .stop) ≡ false → (text : ShownText)
+        → text ≡ textPut out used (lineText (lineOf (v .number) (shownRan (x .ran) words cells)))
         → stepOf (runningOf (x .ran .run) words cells) (x .next) text ≡ stepListed v bytes at out used
     step-listed s text p = ap (stepOf (runningOf (x .ran .run) words cells) (x .next)) (chosen-second _ _ _ _ _ s p) ∙ step-told
 

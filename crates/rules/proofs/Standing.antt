@@ -176,7 +176,8 @@ module _ (B : ℕ → Row) (i s A : ℕ) where
 
   pub effect-stands : (w : World) (a : Asked) → Standing w → i < w .state .count → Passed (testsOf w a) → i < effectOf w a .world .state .count
       → Standing (effectOf w a .world)
-  unfolding pushTests popRoom popped hostTests hostRoom hosted returnHostRoom returnedHost topRoom syncTests synced restored emptied setRoom cellSet registersStored partLent
+  unfolding pushTests popRoom popped hostTests hostRoom hosted
+      returnHostRoom returnedHost topRoom syncTests synced restored emptied setRoom cellSet registersStored partLent
   effect-stands w (Traced (Push q)) h c p d =
       let low = callee-below w h c in
       push-stands w q (ip-stands w h c (p .0) (q .caller)) (omega arith) (omega arith) p

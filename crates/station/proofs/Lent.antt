@@ -26,10 +26,13 @@ none-lent frame n size none = rw (sym size ∙ none) refl
 pub some-lent : (frame : HostFrame) (n : ℕ) → n ≡ sizeOf frame → eqb n 0 ≡ false → partWith 0 (frame .start) (frame .params) n ≡ frameLent frame
 unfolding choose frameLent
 some-lent frame n size some =
-    ap (partWith 0 (frame .start) (frame .params)) size ∙ ap (λ b. choose b (partWith 0 0 0 0) (partWith 0 (frame .start) (frame .params) (sizeOf frame))) (sym (ap (λ x. eqb x 0) (sym size) ∙ some))
+    ap (partWith 0 (frame .start) (frame .params)) size
+    ∙ ap (λ b. choose b (partWith 0 0 0 0) (partWith 0 (frame .start) (frame .params) (sizeOf frame)))
+    (sym (ap (λ x. eqb x 0) (sym size) ∙ some))
 
 module _ (w : World) (frame : HostFrame) where
-  pub told-refused : (why : Refusal) → shownJudgement (Refuse why) ≡ judged (partTests w frame) (partRoom w frame) → partRefused (refusalNumber why) ≡ partTold w frame
+  pub told-refused : (why : Refusal) → shownJudgement (Refuse why) ≡ judged (partTests w frame) (partRoom w frame)
+      → partRefused (refusalNumber why) ≡ partTold w frame
   unfolding partTold
   told-refused why e = sym (judged-refused partRefused (frameLent frame) (partTests w frame) (numbered w (HostPart frame)) (partRoom w frame) why e)
 
@@ -39,10 +42,12 @@ module _ (w : World) (frame : HostFrame) where
 
 -- of a state that the numbers say, with the judgement known
 pub refused-told : (s t : State) → s ≡ t → (ws cs : List ℕ) (frame : HostFrame) (j : Judgement) (why : Refusal) (n : ℕ) (p : CPart)
-    → shownJudgement j ≡ judged (partTests (worldOf s ws cs) frame) (partRoom (worldOf s ws cs) frame) → j ≡ Refuse why → n ≡ refusalNumber why → p ≡ partWith n 0 0 0
+    → shownJudgement j ≡ judged (partTests (worldOf s ws cs) frame) (partRoom (worldOf s ws cs) frame) → j ≡ Refuse why
+    → n ≡ refusalNumber why → p ≡ partWith n 0 0 0
     → p ≡ partTold (worldOf t ws cs) frame
 refused-told s t same ws cs frame j why n p shows refuses numbers tells =
-    tells ∙ ap partRefused numbers ∙ told-refused (worldOf s ws cs) frame why (ap shownJudgement (sym refuses) ∙ shows) ∙ ap (λ x. partTold (worldOf x ws cs) frame) same
+    tells ∙ ap partRefused numbers ∙ told-refused (worldOf s ws cs) frame why (ap shownJudgement (sym refuses) ∙ shows)
+    ∙ ap (λ x. partTold (worldOf x ws cs) frame) same
 
 pub accepted-told : (s t : State) → s ≡ t → (ws cs : List ℕ) (frame : HostFrame) (j : Judgement) (r : Room) (p : CPart)
     → shownJudgement j ≡ judged (partTests (worldOf s ws cs) frame) (partRoom (worldOf s ws cs) frame) → j ≡ Accept r → p ≡ frameLent frame

@@ -9,7 +9,8 @@ use Rattle.choice.specs.Choose.{choose}
 use Rattle.station.specs.declared.slot.CReason.{CReason}
 use Rattle.station.specs.Slots.{reasonSaid, slotSaid, filledTold, takenTold, SlotKept}
 
-pub fill-is-told : (c : CReason) (f : ShownFill) (s t : DoneSlot) (r u : DoneReason) → f ≡ filled s r → s ≡ t → r ≡ u → filledTold c f ≡ filledTold c (filled t u)
+pub fill-is-told : (c : CReason) (f : ShownFill) (s t : DoneSlot) (r u : DoneReason) → f ≡ filled s r → s ≡ t → r ≡ u
+    → filledTold c f ≡ filledTold c (filled t u)
 fill-is-told c f s t r u fills same why = ap (filledTold c) (fills ∙ ap (λ x. filled x r) same ∙ ap (filled t) why)
 
 pub take-is-told : (c : CReason) (d : ShownTake) (s t : DoneSlot) → d ≡ taken s → s ≡ t → takenTold c d ≡ takenTold c (taken t)

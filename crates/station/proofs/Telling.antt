@@ -60,7 +60,9 @@ outcome-is-told c o r ws cs a tells shows = ap (λ x. told x ws cs) tells ∙ ap
 pub opening-is-told : (o : Outcome) (r : CAnswer) (c : CState) (p : Opened) → c ≡ stateTo (o .state) → r ≡ answerTold c (shownAnswer (o .answer)) (o .state)
     → shownOpening o ≡ p → r ≡ openingTold p
 opening-is-told o r c p same tells opens =
-    tells ∙ ap (answerWith (shownAnswer (o .answer) .number) (shownAnswer (o .answer) .values)) (ap (λ x. stateAfter x (shownAnswer (o .answer) .number) (o .state)) same ∙ chosen-either (leb 2 (shownAnswer (o .answer) .number)) (stateTo (o .state)))
+    tells ∙ ap (answerWith (shownAnswer (o .answer) .number) (shownAnswer (o .answer) .values))
+    (ap (λ x. stateAfter x (shownAnswer (o .answer) .number) (o .state)) same
+    ∙ chosen-either (leb 2 (shownAnswer (o .answer) .number)) (stateTo (o .state)))
     ∙ ap openingTold opens
 
 -- of a state that the numbers say
@@ -73,7 +75,8 @@ pub asked-at : (s t : State) → s ≡ t → (ws cs : List ℕ) (q : Request) (d
 asked-at s t same ws cs q d e reads asks = answer-at s t same ws cs (Traced q) ∙ ap (answerTo (worldOf t ws cs)) (sym asks ∙ reads)
 
 -- numbers that say no request
-pub none-is-told : (r : CAnswer) (h : HostFrame) (c : CState) (t : State) (ws cs : List ℕ) (d e : Decoded) → r ≡ answerWith 10 (hostValues 0 h) c → h ≡ noHost → d ≡ e
+pub none-is-told : (r : CAnswer) (h : HostFrame) (c : CState) (t : State) (ws cs : List ℕ) (d e : Decoded)
+    → r ≡ answerWith 10 (hostValues 0 h) c → h ≡ noHost → d ≡ e
     → d ≡ Bad → told r ws cs ≡ afterTold c (answerTo (worldOf t ws cs) e)
 unfolding choose
 none-is-told r h c t ws cs d e tells none reads bad =

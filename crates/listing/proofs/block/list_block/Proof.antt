@@ -18,4 +18,5 @@ list-block-spec =
     (λ c. search needs)
     (λ c.
     let after = c .before .before .before .before .before .before in
-    after .list-records .ensures ∙ block-all _ _ _ (sym (after .before .before .before .before .before .is-narrow .ensures) ∙ after .before .before .before .before .if1 .left)))
+    after .list-records .ensures ∙ block-all _ _ _
+    (sym (after .before .before .before .before .before .is-narrow .ensures) ∙ after .before .before .before .before .if1 .left)))

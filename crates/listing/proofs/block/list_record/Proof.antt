@@ -13,9 +13,13 @@ list-record-spec =
     (λ c κs. search needs)
     (λ c. search needs)
     (λ c. search needs)
-    (λ c. step-stopped _ _ _ _ _ _ _ _ (c .before .before .before .before .before .before .before .before .run-next .ensures) (sym (c .before .is-given .ensures) ∙ c .if1 .taken))
+    (λ c. step-stopped _ _ _ _ _ _ _ _ (c .before .before .before .before .before .before .before .before .run-next .ensures)
+    (sym (c .before .is-given .ensures) ∙ c .if1 .taken))
     (λ c κs. search needs)
     (λ c. search needs)
     (λ c. search needs)
     (λ c. search needs)
-    (λ c. step-listed _ _ _ _ _ _ _ _ (c .before .before .before .before .before .before .before .before .before .before .before .before .run-next .ensures) (sym (c .before .before .before .before .before .is-given .ensures) ∙ c .before .before .before .before .if1 .left) _ (c .before .before .write-line .ensures)))
+    (λ c. step-listed _ _ _ _ _ _ _ _
+    (c .before .before .before .before .before .before .before .before .before .before .before .before .run-next .ensures)
+    (sym (c .before .before .before .before .before .is-given .ensures) ∙ c .before .before .before .before .if1 .left) _
+    (c .before .before .write-line .ensures)))

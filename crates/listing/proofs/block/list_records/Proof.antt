@@ -28,8 +28,12 @@ loop-holds c = (search needs, search needs, search needs, omega arith, refl)
 -- the record at the place reached takes its line off what is left
 left : (c : tie.After-list-record Inv-loop μ-loop)
     → blockLeft (runningOf (c .list-record .result .run) (c .list-record .last .1 .0) (c .list-record .last .1 .1 .0))
-    (entriesLeft (now (c .before .before .before .before .before .before .before .before .before .before .args .bytes)) (c .list-record .result .next)) (c .list-record .result .used) (c .list-record .last .1 .1 .1 .1 .1 .0)
-    ≡ blockLeft (runningOf (c .before .before .before .before .before .before .before .before .before .before .args .run) (now (c .before .before .before .before .before .before .before .before .before .before .args .words)) (now (c .before .before .before .before .before .before .before .before .before .before .args .cells))) (entriesIn (now (c .before .before .before .before .before .before .before .before .before .before .args .bytes))) 0
+    (entriesLeft (now (c .before .before .before .before .before .before .before .before .before .before .args .bytes))
+    (c .list-record .result .next)) (c .list-record .result .used) (c .list-record .last .1 .1 .1 .1 .1 .0)
+    ≡ blockLeft (runningOf (c .before .before .before .before .before .before .before .before .before .before .args .run)
+    (now (c .before .before .before .before .before .before .before .before .before .before .args .words))
+    (now (c .before .before .before .before .before .before .before .before .before .before .args .cells)))
+    (entriesIn (now (c .before .before .before .before .before .before .before .before .before .before .args .bytes))) 0
     (now (c .before .before .before .before .before .before .before .before .before .before .args .out))
 left c =
     let loop = c .before .before .before .before .before .loop in
@@ -37,8 +41,11 @@ left c =
 
 -- and uses no more than the longest
 used : (c : tie.After-list-record Inv-loop μ-loop)
-    → (c .list-record .result .next ≡ nextPlace (length (now (c .before .before .before .before .before .before .before .before .before .before .args .bytes))) (c .before .before .before .before .before .loop .at))
-    × ((c .list-record .result .used ≤ c .before .before .before .before .before .loop .used + longestText) × (length (c .list-record .last .1 .1 .1 .1 .1 .0) ≡ length (c .before .before .before .before .before .loop .out)))
+    → (c .list-record .result .next
+    ≡ nextPlace (length (now (c .before .before .before .before .before .before .before .before .before .before .args .bytes)))
+    (c .before .before .before .before .before .loop .at))
+    × ((c .list-record .result .used ≤ c .before .before .before .before .before .loop .used + longestText)
+    × (length (c .list-record .last .1 .1 .1 .1 .1 .0) ≡ length (c .before .before .before .before .before .loop .out)))
 used c =
     let loop = c .before .before .before .before .before .loop in
     step-used _ _ (loop .at) (loop .used) (loop .out) (omega arith) (omega arith) _ (c .list-record .ensures)

@@ -14,4 +14,8 @@ list-end-spec =
     (λ c κs. search needs)
     (λ c κs. search needs)
     (λ c. search needs)
-    (λ c. let after-stop = c .before .before .before .before .before .before in let args = after-stop .before .before .before .before .args in end-listed _ (omega arith) (args .run .number) (args .run .stop) (args .run .spent) _ _ _ (after-stop .list-stop .ensures) (c .before .before .write-spent .ensures)))
+    (λ c.
+    let after-stop = c .before .before .before .before .before .before in
+    let args = after-stop .before .before .before .before .args in
+    end-listed _ (omega arith) (args .run .number) (args .run .stop) (args .run .spent) _ _ _ (after-stop .list-stop .ensures)
+    (c .before .before .write-spent .ensures)))

@@ -8,7 +8,8 @@ use Rattle.listing_vectors.proofs.parts.list_parts.Statement.{statement
 use Rattle.listing_vectors.proofs.parts.list_parts.Tie as tie
 
 abbrev Inv-loop : tie.InvT-loop
-Inv-loop words₀ cells₀ bytes text₀ so-far₀ at₀ words cells text so-far at = (length words ≡ length words₀) × (length cells ≡ length cells₀) × (length text ≡ length text₀) × (at ≤ length bytes)
+Inv-loop words₀ cells₀ bytes text₀ so-far₀ at₀ words cells text so-far at =
+    (length words ≡ length words₀) × (length cells ≡ length cells₀) × (length text ≡ length text₀) × (at ≤ length bytes)
 
 abbrev μ-loop : tie.MeasureT-loop
 μ-loop words₀ cells₀ bytes text₀ so-far₀ at₀ words cells text so-far at = length bytes - at

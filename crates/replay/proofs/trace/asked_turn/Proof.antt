@@ -10,4 +10,6 @@ asked-turn-spec = tie.close (tie.spec
     (λ c κs. search needs)
     (λ c. search needs)
     (λ c. search needs)
-    (λ c. let args = c .before .before .before .before .before .before .before .before .before .args in ap (λ t. turnOf t (args .next)) (c .before .before .before .before .run-asked .ensures)))
+    (λ c.
+    let args = c .before .before .before .before .before .before .before .before .before .args in
+    ap (λ t. turnOf t (args .next)) (c .before .before .before .before .run-asked .ensures)))

@@ -19,5 +19,13 @@ cattlecleat-ask-spec =
     (λ c κs. search needs)
     (λ c. search needs)
     (λ c. search needs)
-    (λ c. outcome-is-told (c .before .before .before .before .before .before .before .before .before .before .before .before .before .before .before .args .s) (c .before .before .before .before .before .ask .result) _ _ _ _ (c .outcome-told .ensures) (c .before .before .before .before .before .ask .ensures ∙ asked-at _ _ (c .before .before .before .before .before .before .before .before .state-from .ensures) _ _ _ _ _ (c .before .before .before .before .before .before .before .before .before .before .before .before .request-from .ensures) (c .before .before .before .before .before .before .before .before .before .before .asked .given .1)))
-    (λ c. none-is-told _ _ (c .before .before .before .before .before .before .before .args .s) _ _ _ _ _ (c .host-told .ensures) (c .before .no-host .ensures) (c .before .before .before .before .request-from .ensures) (c .before .before .enum-told .given .1)))
+    (λ c.
+    let after-ask = c .before .before .before .before .before in
+    let after-state = after-ask .before .before .before in
+    let after-asked = after-state .before .before in
+    let after-request = after-asked .before .before in
+    outcome-is-told (after-request .before .before .before .args .s) (after-ask .ask .result) _ _ _ _ (c .outcome-told .ensures)
+    (after-ask .ask .ensures
+    ∙ asked-at _ _ (after-state .state-from .ensures) _ _ _ _ _ (after-request .request-from .ensures) (after-asked .asked .given .1)))
+    (λ c. none-is-told _ _ (c .before .before .before .before .before .before .before .args .s) _ _ _ _ _ (c .host-told .ensures)
+    (c .before .no-host .ensures) (c .before .before .before .before .request-from .ensures) (c .before .before .enum-told .given .1)))

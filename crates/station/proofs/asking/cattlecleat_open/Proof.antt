@@ -11,4 +11,5 @@ cattlecleat-open-spec =
     (λ c κs. search needs)
     (λ c κs. search needs)
     (λ c κs. search needs)
-    (λ c. opening-is-told (c .before .before .before .«open» .result) _ _ _ (c .before .state-to .ensures) (c .outcome-told .ensures) (c .before .before .before .«open» .ensures)))
+    (λ c. opening-is-told (c .before .before .before .«open» .result) _ _ _ (c .before .state-to .ensures) (c .outcome-told .ensures)
+    (c .before .before .before .«open» .ensures)))

@@ -12,4 +12,5 @@ cattlecleat-sync-registers-spec =
     (λ c κs. search needs)
     (λ c κs. search needs)
     (λ c κs. search needs)
-    (λ c. outcome-is-told (c .before .before .before .before .before .args .s) (c .before .sync-regs .result) _ _ _ _ (c .outcome-told .ensures) (c .before .sync-regs .ensures ∙ answer-at _ _ (c .before .before .state-from .ensures) _ _ _)))
+    (λ c. outcome-is-told (c .before .before .before .before .before .args .s) (c .before .sync-regs .result) _ _ _ _
+    (c .outcome-told .ensures) (c .before .sync-regs .ensures ∙ answer-at _ _ (c .before .before .state-from .ensures) _ _ _)))

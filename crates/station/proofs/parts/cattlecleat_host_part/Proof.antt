@@ -15,5 +15,8 @@ cattlecleat-host-part-spec =
     (λ c κs. search needs)
     (λ c. search needs)
     (λ c κs. search needs)
-    (λ c. refused-told _ _ (c .before .before .before .before .before .before .state-from .ensures) _ _ _ _ _ _ _ (c .before .before .before .before .before .judge-host-part .ensures) (c .before .before .before .why .given .1) (c .before .refusal-number .ensures) (c .part .ensures))
-    (λ c. accepted-told _ _ (c .before .before .before .before .state-from .ensures) _ _ _ _ _ _ (c .before .before .before .judge-host-part .ensures) (c .before .enum-told .given .1) (c .frame-lent .ensures)))
+    (λ c. refused-told _ _ (c .before .before .before .before .before .before .state-from .ensures) _ _ _ _ _ _ _
+    (c .before .before .before .before .before .judge-host-part .ensures) (c .before .before .before .why .given .1)
+    (c .before .refusal-number .ensures) (c .part .ensures))
+    (λ c. accepted-told _ _ (c .before .before .before .before .state-from .ensures) _ _ _ _ _ _
+    (c .before .before .before .judge-host-part .ensures) (c .before .enum-told .given .1) (c .frame-lent .ensures)))

@@ -20,6 +20,8 @@ unfolding code.routine tablesOf
 cattlecleat-put-freg64-spec 𝓤 H 𝓜 𝓖 𝓡 =
     entered 𝓤 H (tripleOf 𝓤 H (𝓖 .A) f.signature (f.spec 𝓤 H (𝓖 .A) (𝓜 .mem) (𝓡 .run)))
     (tables 𝓤 H 𝓜 𝓡 code.env .C) (tables 𝓤 H 𝓜 𝓡 code.env .Λ) #f code.function (code.unfolded 𝓤 H 𝓜 𝓡)
-    (puts-meets (ieee binary64) 𝓤 H (𝓖 .A) withFreg64 (givenOf 𝓤 H 𝓜 𝓖) (λ κs a e. f.clauses 𝓤 H (𝓖 .A) (𝓜 .mem) (𝓡 .run) κs a .ensures tt tt e) (λ κs a r e. factI 𝓤 _ (emp 𝓤) e)
+    (puts-meets (ieee binary64) 𝓤 H (𝓖 .A) withFreg64 (givenOf 𝓤 H 𝓜 𝓖)
+    (λ κs a e. f.clauses 𝓤 H (𝓖 .A) (𝓜 .mem) (𝓡 .run) κs a .ensures tt tt e) (λ κs a r e. factI 𝓤 _ (emp 𝓤) e)
     (tablesOf 𝓤 H 𝓜 (tables 𝓤 H 𝓜 𝓡 code.env)) #g
-    (cited 𝓤 H (Callee (ieee binary64) 𝓤 H (𝓖 .A) withFreg64) 𝓜 𝓡 code.env #g g-def.routine code.calls-regs·registers·Registers·with-freg64 (g-thm.met 𝓤 H 𝓜 𝓖 𝓡)))
+    (cited 𝓤 H (Callee (ieee binary64) 𝓤 H (𝓖 .A) withFreg64) 𝓜 𝓡 code.env #g g-def.routine code.calls-regs·registers·Registers·with-freg64
+    (g-thm.met 𝓤 H 𝓜 𝓖 𝓡)))

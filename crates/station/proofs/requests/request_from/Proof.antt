@@ -37,4 +37,14 @@ request-from-spec =
     let not3 = not4 .0 in
     let not2 = not3 .0 in
     let not1 = not2 .0 in
-    rw (ne-eqb _ _ (not1 .1), ne-eqb _ _ (not2 .1), ne-eqb _ _ (not3 .1), ne-eqb _ _ (not4 .1), ne-eqb _ _ (not5 .1), ne-eqb _ _ (not6 .1), ne-eqb _ _ (not7 .1), ne-eqb _ _ (not8 .1), ne-eqb _ _ (not9 .1))))
+    rw (
+      ne-eqb _ _ (not1 .1),
+      ne-eqb _ _ (not2 .1),
+      ne-eqb _ _ (not3 .1),
+      ne-eqb _ _ (not4 .1),
+      ne-eqb _ _ (not5 .1),
+      ne-eqb _ _ (not6 .1),
+      ne-eqb _ _ (not7 .1),
+      ne-eqb _ _ (not8 .1),
+      ne-eqb _ _ (not9 .1),
+    )))

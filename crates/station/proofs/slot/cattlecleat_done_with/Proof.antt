@@ -14,4 +14,6 @@ cattlecleat-done-with-spec =
     (λ c κs. search needs)
     (λ c κs. search needs)
     (λ c κs. search needs)
-    (λ c. c .fill-told .ensures ∙ (rw (c .before .slot-to .ensures) (fill-is-told _ _ _ _ _ _ (c .before .before .done-with .ensures) (c .before .before .before .before .slot-from .ensures) (c .before .before .before .reason-from .ensures)))))
+    (λ c. c .fill-told .ensures ∙ (rw (c .before .slot-to .ensures)
+    (fill-is-told _ _ _ _ _ _ (c .before .before .done-with .ensures) (c .before .before .before .before .slot-from .ensures)
+    (c .before .before .before .reason-from .ensures)))))

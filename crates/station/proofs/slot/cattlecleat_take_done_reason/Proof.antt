@@ -13,4 +13,5 @@ cattlecleat-take-done-reason-spec =
     (λ c κs. search needs)
     (λ c κs. search needs)
     (λ c κs. search needs)
-    (λ c. c .take-told .ensures ∙ (rw (c .before .slot-to .ensures) (take-is-told _ _ _ _ (c .before .before .take-done-reason .ensures) (c .before .before .before .slot-from .ensures)))))
+    (λ c. c .take-told .ensures ∙ (rw (c .before .slot-to .ensures)
+    (take-is-told _ _ _ _ (c .before .before .take-done-reason .ensures) (c .before .before .before .slot-from .ensures)))))

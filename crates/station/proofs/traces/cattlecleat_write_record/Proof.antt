@@ -15,5 +15,8 @@ cattlecleat-write-record-spec =
     (λ c κs. search needs)
     (λ c. search needs)
     (λ c. search needs)
-    (λ c. written-is-told _ (c .before .before .before .write-request .result) _ _ (c .written-number .ensures) (c .before .before .before .write-request .ensures ∙ write-at _ _ _ _ _ (c .before .before .before .before .before .before .before .before .request-from .ensures) (c .before .before .before .before .before .before .asked .given .1)))
+    (λ c. written-is-told _ (c .before .before .before .write-request .result) _ _ (c .written-number .ensures)
+    (c .before .before .before .write-request .ensures
+    ∙ write-at _ _ _ _ _ (c .before .before .before .before .before .before .before .before .request-from .ensures)
+    (c .before .before .before .before .before .before .asked .given .1)))
     (λ c. none-written _ _ _ _ (c .before .before .request-from .ensures) (c .enum-told .given .1)))

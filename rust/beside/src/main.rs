@@ -34,8 +34,9 @@ const HELP: &str = "beside: the archive beside the Rust of wasmi 2.0.0 and a pla
       one run at document 01's largest sizes, within 512 MiB
   beside gate
       mission, leaves and a fixed share of compare; the last line says how much was compared
-  beside vectors FILE
-      writes the fixed vectors: the same bytes every time
+  beside vectors FOLDER
+      writes the fixed vectors, text files in data with their names in args, and in stdout what the program that runs them prints: the
+      same bytes every time
 
 The status is 0 where all is well, 1 on a difference, 2 on a wrong argument.";
 

@@ -1,7 +1,8 @@
 //! Records that read badly, each for one cause: a kind, a flag, or one byte of something that must be zero.
 
 use super::maker::{Made, Maker};
-use crate::plain::State;
+use crate::example::P;
+use crate::plain::{KINDS, State};
 use crate::reading::{RECORD_BYTES, read_record};
 
 type Record = [u8; RECORD_BYTES];
@@ -25,24 +26,48 @@ const FIELDS: [[usize; 2]; 12] = [
     [32, 39],
 ];
 
-/// All of them, on whatever stack there is: each is 10, and nothing changes.
+const WORLD: [u64; 4] = [80, 3, 12, 10];
+
+/// All of them on a stack with a frame: each is 10, and nothing changes.
 pub fn make(maker: &mut Maker) -> Made<()> {
-    let good = bases().into_iter().filter(reads);
-    let bad = bases().into_iter().filter(|record| !reads(record));
-    let spoilt: Vec<Record> = bad.chain(good.flat_map(spoilt)).collect();
-    spoilt.iter().try_for_each(|record| maker.record(record).map(|_| ()))
+    maker.file("bad", "Records that read badly, each for one cause.");
+    maker.sums();
+    maker.says("kinds and flags that are not allowed");
+    maker.open(WORLD)?;
+    maker.ask(&P)?;
+    let (good, bad): (Vec<Record>, Vec<Record>) = bases().into_iter().partition(reads);
+    asked(maker, &bad)?;
+    for record in good {
+        maker.says(&format!(
+            "{} with flags {}, and one byte where there must be none",
+            named(&record),
+            record[1]
+        ));
+        asked(maker, &spoilt(record))?;
+    }
+    make_on_broken(maker)
+}
+
+fn named(record: &Record) -> &'static str {
+    KINDS[usize::from(record[0]) - 1]
+}
+
+fn asked(maker: &mut Maker, records: &[Record]) -> Made<()> {
+    records.iter().try_for_each(|record| maker.record(record).map(|_| ()))
 }
 
 /// One of each kind on a broken state: 10 as well. Of a good one the state is looked at: 9.
-pub fn make_on_broken(maker: &mut Maker) -> Made<()> {
+fn make_on_broken(maker: &mut Maker) -> Made<()> {
+    maker.says("on a broken state a bad record is 10 too, and only a good one is 9");
     let broken = State {
         words: 1,
         ..State::default()
     };
     maker.give(broken, 0, 0);
     let wrong = |kind: u8| with(&[0; RECORD_BYTES], &[(0, kind), (15, 1)]);
-    (0..=10).map(wrong).try_for_each(|record| maker.record(&record).map(|_| ()))?;
-    maker.record(&with(&[0; RECORD_BYTES], &[(0, 8)])).map(|_| ())
+    let mut records: Vec<Record> = (0..=10).map(wrong).collect();
+    records.push(with(&[0; RECORD_BYTES], &[(0, 8)]));
+    asked(maker, &records)
 }
 
 /// Every kind with every flag, and nothing else in it.

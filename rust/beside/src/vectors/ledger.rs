@@ -40,10 +40,10 @@ impl Ledger {
         self.lists.entry(*name).or_insert_with(|| lines.clone());
     }
 
-    /// How many mutations this list would show that are not shown yet.
-    pub fn new_kills(&self, (name, lines): &List) -> usize {
-        let new = |change: &Change| !self.killed.contains(&(*name, *change));
-        kills(lines).into_iter().filter(new).count()
+    /// The mutations that this list would show and that are not shown yet.
+    pub fn new_kills(&self, (name, lines): &List) -> Vec<Mutation> {
+        let mutations = kills(lines).into_iter().map(|change| (*name, change));
+        mutations.filter(|mutation| !self.killed.contains(mutation)).collect()
     }
 
     pub fn has_killed(&self, mutation: &Mutation) -> bool {
@@ -142,8 +142,11 @@ mod tests {
     fn what_is_counted_is_new_once() {
         let mut ledger = Ledger::default();
         let list = ("list", lines([true, false, true]));
-        assert_eq!(ledger.new_kills(&list), 2);
+        assert_eq!(ledger.new_kills(&list).len(), 2);
         ledger.add(&list);
-        assert_eq!((ledger.new_kills(&list), ledger.all().len(), ledger.same_numbers()), (0, 5, 1));
+        assert_eq!(
+            (ledger.new_kills(&list).len(), ledger.all().len(), ledger.same_numbers()),
+            (0, 5, 1)
+        );
     }
 }

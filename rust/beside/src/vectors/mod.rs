@@ -1,12 +1,16 @@
-//! The fixed vectors: a file of entries that is made again and comes out the same.
+//! The fixed vectors: text files that are made again and come out the same.
 //!
 //! What is expected of an accepted request is the Rust's, of a refusal document 01's as the driver of the Rust reads it; where the Rust
-//! cannot follow, it is the plain reading's.
+//! cannot follow, it is the plain reading's. The archive answers every line too.
 
+#[cfg(target_arch = "x86_64")]
+mod archive;
 mod bad_records;
-mod cases;
-mod copies;
-mod entry;
+mod buffers;
+mod call;
+mod desk;
+mod folder;
+mod groups;
 mod ledger;
 mod line;
 mod lists;
@@ -15,80 +19,66 @@ mod moves;
 mod nine;
 mod openings;
 mod reasons;
-#[cfg(target_arch = "x86_64")]
-mod replay;
 mod search;
 mod small;
+mod straight;
+mod text;
 mod verdict;
 mod walker;
 mod walks;
 
-use self::entry::{Entry, WHATS};
 use self::maker::{Made, Maker};
+use self::text::{Book, File, said};
 use self::verdict::{excused, shown};
 use crate::command::Verdict;
-use std::fs;
+use std::collections::BTreeMap;
 
 pub fn run(args: &[String]) -> Verdict {
-    let [file] = args else {
-        return Err("the one argument is the file to write".to_string());
+    let [name] = args else {
+        return Err("the one argument is the folder to write".to_string());
     };
-    let outcome = made().and_then(|maker| Ok((shown(&maker.ledger)?, maker)));
-    let (mutations, maker) = match outcome {
+    let (maker, files, mutations) = match made() {
         Ok(made) => made,
         Err(why) => {
             println!("no vectors: {why}");
             return Ok(false);
         }
     };
-    write(file, &maker.entries)?;
-    print!("{}{}", counts(&maker.entries), excused(&maker.ledger));
-    let entries = maker.entries.len();
-    println!("{entries} entries, {mutations} mutations of the refusal lists, {mutations} killed");
+    folder::write(name, &files)?;
+    print!("{}{}{}", counts(&maker.book), excused(&maker.ledger), said(&files));
+    println!("{mutations} mutations of the refusal lists, {mutations} killed");
+    if !cfg!(target_arch = "x86_64") {
+        println!("not compared with ours, whose archive is for x86-64");
+    }
     Ok(true)
 }
 
-fn made() -> Made<Maker> {
+/// All lines, the files that they stand in, and how many mutations they show.
+fn made() -> Made<(Maker, Vec<File>, usize)> {
     let mut maker = Maker::new();
-    cases::make(&mut maker)?;
-    bad_records::make(&mut maker)?;
+    groups::make(&mut maker)?;
     openings::make(&mut maker)?;
-    copies::make(&mut maker)?;
     walks::make(&mut maker)?;
-    walks::make_alone(&mut maker)?;
     search::make(&mut maker)?;
-    bad_records::make_on_broken(&mut maker)?;
-    ours(&maker.entries)?;
-    Ok(maker)
+    bad_records::make(&mut maker)?;
+    let mutations = shown(&maker.ledger)?;
+    let files = maker.book.files()?;
+    Ok((maker, files, mutations))
 }
 
-#[cfg(target_arch = "x86_64")]
-fn ours(entries: &[Entry]) -> Made<()> {
-    replay::difference(entries).map_or(Ok(()), Err)
-}
-
-#[cfg(not(target_arch = "x86_64"))]
-fn ours(_: &[Entry]) -> Made<()> {
-    println!("not compared with ours, whose archive is for x86-64");
-    Ok(())
-}
-
-/// How many entries there are of each sort, and of each answer number.
-fn counts(entries: &[Entry]) -> String {
-    let sorts = WHATS.map(|(what, name)| format!("{} {name}", entries.iter().filter(|entry| entry.what == what).count()));
-    let answers = (0..16).map(|number| (number, entries.iter().filter(|entry| entry.number() == Some(number)).count()));
+/// How many entries there are of each word, and of each answer number.
+fn counts(book: &Book) -> String {
+    let (mut words, mut answers) = (BTreeMap::new(), BTreeMap::new());
+    for row in book.rows() {
+        *words.entry(row.word).or_insert(0) += 1;
+        if let Some(number) = row.number() {
+            *answers.entry(number).or_insert(0) += 1;
+        }
+    }
+    let words: Vec<String> = words.iter().map(|(word, count): (_, &u64)| format!("{count} {word}")).collect();
     let answers: Vec<String> = answers
-        .filter(|(_, count)| *count > 0)
-        .map(|(number, count)| format!("{number}: {count}"))
+        .iter()
+        .map(|(number, count): (_, &u64)| format!("{number}: {count}"))
         .collect();
-    format!("{}\nanswers {}\n", sorts.join(", "), answers.join(", "))
-}
-
-/// Writes beside the file and puts it in its place at once.
-fn write(file: &str, entries: &[Entry]) -> Result<(), String> {
-    let bytes: Vec<u8> = entries.iter().flat_map(Entry::bytes).collect();
-    let beside = format!("{file}.new");
-    fs::write(&beside, bytes)
-        .and_then(|()| fs::rename(&beside, file))
-        .map_err(|error| format!("{file}: {error}"))
+    format!("{}\nanswers {}\n", words.join(", "), answers.join(", "))
 }

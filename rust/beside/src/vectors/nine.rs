@@ -1,6 +1,6 @@
 //! The causes of 9, one line each, and those of 14.
 
-use super::line::Line;
+use super::line::{HIGHER, LOWER, Line};
 use crate::reading::Reading;
 
 const MAX_DEPTH: u128 = 65_536;
@@ -15,8 +15,7 @@ const ROWS: [[&str; 3]; 2] = [
 
 /// Where the state and the lent lengths are looked at, and so many of the newest frames.
 ///
-/// 4·D is what a machine makes of it: it wraps, which must not show since D is tested before. In exact numbers no entry could tell whether
-/// D is tested at all, since 256 words are too few for any D above its limit.
+/// 4·D is what a machine makes of it: it wraps, which must not show since D is tested before.
 pub fn nine(world: &Reading, frames: u64) -> Vec<Line> {
     let s = &world.state;
     let [depth, height, words, cells, count, len] = [s.depth, s.height, s.words, s.cells, s.count, s.len].map(u128::from);
@@ -43,9 +42,10 @@ pub fn nine(world: &Reading, frames: u64) -> Vec<Line> {
 fn row_lines(world: &Reading, older: u64) -> [Line; 3] {
     let [start_above, flag_above, instance_beside] = ROWS[older as usize];
     let there = world.state.count > older;
-    let [start, flag, debt] = match row(world, older) {
-        Some([_, start, flag, debt]) => [start, flag, debt],
-        None => return [start_above, flag_above, instance_beside].map(|cause| Line::when(cause, 9, there)),
+    let Some([_, start, flag, debt]) = row(world, older) else {
+        let line = |cause| Line::when(cause, 9, there);
+        let bound = |cause| line(cause).slip(LOWER, there).slip(HIGHER, there);
+        return [bound(start_above), bound(flag_above), line(instance_beside)];
     };
     let len = u128::from(world.state.len);
     [

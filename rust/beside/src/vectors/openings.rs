@@ -1,6 +1,8 @@
 //! Openings: those that the walks go through, and both sides of every limit.
 
 use super::maker::{Made, Maker};
+use super::moves::Move;
+use crate::example::NOTHING;
 use crate::plain::Request;
 
 /// A height limit in cells and seven bytes more, which the division drops; depth limit, words beyond four for each frame, cells.
@@ -37,48 +39,75 @@ pub const WALKED_ALONE: [([u64; 4], usize); 4] = [
     (world(64, 16, 0, 63), 16),
 ];
 
-/// At a limit of the height and one beyond it, too few words by one and by all, and depths whose fourfold wraps.
-const LIMITS: [[u64; 4]; 22] = [
-    [0, 0, 0, 0],
-    [7, 0, 0, 0],
-    [8, 1, 4, 1],
-    [8_388_607, 1, 4, 1],
-    [8_388_608, 1, 4, 1],
-    [8_388_609, 1, 4, 1],
-    [8_388_615, 1, 4, 1],
-    [8_388_616, 1, 4, 1],
-    [u64::MAX, 1, 4, 1],
-    [80, 1, 3, 10],
-    [80, 1, 0, 10],
-    [80, 3, 11, 10],
-    [80, 3, 12, 10],
-    [80, 3, 13, 10],
-    [80, 64, 255, 64],
-    [80, 64, 256, 64],
-    [80, 65, 256, 64],
-    [80, 65_536, 256, 64],
-    [80, 65_537, 256, 64],
-    [80, 1 << 62, 256, 64],
-    [80, 1 << 63, 0, 0],
-    [80, u64::MAX, 256, 64],
+/// What a group shows, and its openings.
+type Group = (&'static str, &'static [[u64; 4]]);
+
+const LIMITS: [Group; 5] = [
+    ("nothing lent, and fewer bytes than a cell has", &[[0, 0, 0, 0], [7, 0, 0, 0]]),
+    (
+        "8,388,608 bytes at most, else 14",
+        &[
+            [8, 1, 4, 1],
+            [8_388_607, 1, 4, 1],
+            [8_388_608, 1, 4, 1],
+            [8_388_609, 1, 4, 1],
+            [8_388_615, 1, 4, 1],
+            [8_388_616, 1, 4, 1],
+            [u64::MAX, 1, 4, 1],
+        ],
+    ),
+    (
+        "four words at least for each frame, else 14",
+        &[
+            [80, 1, 3, 10],
+            [80, 1, 0, 10],
+            [80, 3, 11, 10],
+            [80, 3, 12, 10],
+            [80, 3, 13, 10],
+            [80, 64, 255, 64],
+            [80, 64, 256, 64],
+            [80, 65, 256, 64],
+        ],
+    ),
+    (
+        "65,536 frames at most, else 14",
+        &[
+            [80, 65_536, 256, 64],
+            [80, 65_536, 262_144, 64],
+            [80, 65_537, 262_148, 64],
+            [80, 65_537, 256, 64],
+        ],
+    ),
+    (
+        "depths whose fourfold wraps are 14",
+        &[[80, 1 << 62, 256, 64], [80, 1 << 63, 0, 0], [80, u64::MAX, 256, 64]],
+    ),
 ];
 
 /// Each limit's both sides. A refused opening leaves a state of zeros, over which everything is 9 where anything is lent.
 pub fn make(maker: &mut Maker) -> Made<()> {
-    for opening in LIMITS {
-        maker.open(opening)?;
-        maker.ask(&push())?;
-        maker.registers(5)?;
+    maker.file(
+        "openings",
+        "Openings at both sides of every limit, and a push and a register sync after each.",
+    );
+    maker.sums();
+    for (words, openings) in LIMITS {
+        maker.says(words);
+        openings.iter().try_for_each(|opening| tried(maker, *opening))?;
     }
     Ok(())
 }
 
-fn push() -> Request {
-    Request {
-        kind: 1,
-        locals: 1,
-        slots: 1,
-        callee: 7,
-        ..Request::default()
-    }
+fn tried(maker: &mut Maker, opening: [u64; 4]) -> Made<()> {
+    maker.open(opening)?;
+    maker.asked(&Move::Ask(PUSH))?;
+    maker.asked(&Move::integer(5)).map(|_| ())
 }
+
+const PUSH: Request = Request {
+    kind: 1,
+    locals: 1,
+    slots: 1,
+    callee: 7,
+    ..NOTHING
+};

@@ -3,10 +3,9 @@
 use super::ledger::{Change, Mutation};
 use super::line::{HIGHER, LOWER};
 
-/// The buffers have 64 cells and 256 words, so the two largest limits are out of reach; the run at the largest sizes has both sides of
-/// them. A state with more cells than 1,048,576 has more than are lent, and is refused for that. A D around 65,536 has too few words.
+/// The buffer has 64 cells, so L's limit is out of reach; the run at the largest sizes has both sides of it. A state with more cells than
+/// 1,048,576 has more than are lent, and is refused for that.
 const CELLS: &str = "64 cells are lent at most: 'fewer cells lent' holds with it, and at an opening neither does";
-const WORDS: &str = "256 words are lent at most: '4 D above the words' or 'fewer words lent' holds on both sides of this bound";
 
 /// Two causes that never hold together, so that their order does not matter.
 const A_FRAME: &str = "never together: count above D is above 0, and a frame is read only where there is one";
@@ -25,7 +24,6 @@ const PARAMS: &str = "after 7 the parameters lie below len, so only results need
 pub fn reason((list, change): &Mutation) -> Option<&'static str> {
     match *change {
         Change::Dropped(cause) | Change::Slipped(cause, _) | Change::Exchanged(cause, _) if cause == "L above its limit" => Some(CELLS),
-        Change::Slipped("D above its limit", LOWER | HIGHER) => Some(WORDS),
         Change::Slipped("end below start", LOWER | HIGHER) => Some(ORDER),
         Change::Slipped("needed above M" | "needed above L", "by results alone") if *list == "return-host" => Some(PARAMS),
         Change::Exchanged(earlier, later) => never_together(earlier, later),

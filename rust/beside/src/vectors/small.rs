@@ -95,7 +95,7 @@ fn spoil_row(rng: &mut Rng, s: &State, words: &mut [u64]) {
 
 fn asked(rng: &mut Rng, world: &Reading) -> Move {
     match rng.below(16) {
-        0 => Move::Registers(rng.below(9)),
+        0 => Move::integer(rng.below(9)),
         1..=3 => Move::Part(part(rng, world.state.len)),
         _ => Move::Ask(request(rng)),
     }

@@ -46,6 +46,6 @@ pub fn excused(ledger: &Ledger) -> String {
     same + &by_reason.iter().map(line).collect::<String>()
 }
 
-fn named((list, change): &Mutation) -> String {
+pub fn named((list, change): &Mutation) -> String {
     format!("{list}: {change}")
 }

@@ -9,13 +9,12 @@ use crate::rng::Rng;
 /// How often each move comes: the nine kinds, register sync, host part.
 type Mood = [u64; 11];
 
-/// Deep calls; sets and tail calls; host calls; returns and everything else. The last one resets.
-pub const MOODS: [Mood; 5] = [
-    [24, 1, 1, 2, 0, 1, 1, 0, 6, 1, 0],
-    [4, 1, 14, 1, 1, 1, 1, 0, 14, 0, 1],
-    [4, 1, 1, 12, 3, 1, 1, 0, 4, 1, 10],
-    [5, 9, 3, 3, 6, 2, 2, 1, 4, 1, 2],
-    [12, 4, 4, 4, 4, 1, 2, 2, 6, 1, 2],
+pub const MOODS: [(&str, Mood); 5] = [
+    ("deep calls", [24, 1, 1, 2, 0, 1, 1, 0, 6, 1, 0]),
+    ("sets and tail calls", [4, 1, 14, 1, 1, 1, 1, 0, 14, 0, 1]),
+    ("host calls", [4, 1, 1, 12, 3, 1, 1, 0, 4, 1, 10]),
+    ("returns, and everything else", [5, 9, 3, 3, 6, 2, 2, 1, 4, 1, 2]),
+    ("calls again, with resets", [12, 4, 4, 4, 4, 1, 2, 2, 6, 1, 2]),
 ];
 
 /// Ips, instances and cells, told apart by their bits alone.
@@ -57,7 +56,7 @@ impl Walker {
             over
         };
         match mood.iter().take_while(passed).count() {
-            9 => Move::Registers(self.number()),
+            9 => Move::integer(self.number()),
             10 => Move::Part(self.part(world)),
             kind => Move::Ask(self.request(kind as u64 + 1, world)),
         }

@@ -6,9 +6,18 @@ use super::openings::{WALKED, WALKED_ALONE};
 use super::walker::{MOODS, Walker};
 use crate::plain::HostFrame;
 
-/// Beside the Rust.
+const ABOUT: &str = "Random walks: deep calls, sets and tail calls, host calls, returns, resets.";
+
 pub fn make(maker: &mut Maker) -> Made<()> {
+    maker.series("walks", ABOUT);
+    make_beside(maker)?;
+    make_alone(maker)
+}
+
+/// Beside the Rust.
+fn make_beside(maker: &mut Maker) -> Made<()> {
     for (seed, (opening, stretch)) in (1..).zip(WALKED) {
+        maker.anew(&format!("{}, seed {seed}", named(opening)));
         maker.open(opening)?;
         walk(maker, seed, stretch)?;
     }
@@ -16,8 +25,9 @@ pub fn make(maker: &mut Maker) -> Made<()> {
 }
 
 /// Without it: then every cell is compared, also those that no one wrote.
-pub fn make_alone(maker: &mut Maker) -> Made<()> {
+fn make_alone(maker: &mut Maker) -> Made<()> {
     for (seed, (opening, stretch)) in (101..).zip(WALKED_ALONE) {
+        maker.anew(&format!("{}, seed {seed}, every cell", named(opening)));
         maker.open(opening)?;
         maker.give_cell(0, seed);
         walk(maker, seed, stretch)?;
@@ -25,14 +35,21 @@ pub fn make_alone(maker: &mut Maker) -> Made<()> {
     Ok(())
 }
 
+fn named([bytes, depth, words, cells]: [u64; 4]) -> String {
+    format!("M {}, L {cells}, D {depth}, {words} words", bytes / 8)
+}
+
 /// So many steps in each mood.
 fn walk(maker: &mut Maker, seed: u64, stretch: usize) -> Made<()> {
     let mut walker = Walker::new(seed);
-    let mut moods = MOODS.iter().flat_map(|mood| std::iter::repeat_n(mood, stretch));
-    moods.try_for_each(|mood| {
-        let chosen = walker.next(mood, &maker.world());
-        step(maker, &mut walker, &chosen)
-    })
+    for (name, mood) in MOODS {
+        maker.says(name);
+        for _ in 0..stretch {
+            let chosen = walker.next(&mood, &maker.world());
+            step(maker, &mut walker, &chosen)?;
+        }
+    }
+    Ok(())
 }
 
 /// Takes a step. The last host frame is what host parts are made from.

@@ -1,0 +1,96 @@
+// What came of a line, held to what it expects: the answer, then the state, then both buffers.
+use crate::course::Course;
+use crate::course::counted;
+use crate::course::faulty;
+use crate::told::Outcome;
+use crate::told::Told;
+use std::num::wrapping_add_usize;
+use vector_text::counts::Counts;
+use vector_text::held::Mark;
+use vector_text::held::held;
+use vector_text::held::held_first;
+use vector_text::held::mark_at;
+use vector_text::say::WRONG_COUNT;
+use vector_text::sums::sum_of;
+use vector_text::tokens::BAR;
+
+// Sums are over so many words at the most.
+const SUMMED: usize = 256;
+
+// An answer alone.
+pub fn hold(c: Course, tokens: &[u64], names: &[u8], t: Told) -> Course {
+    let h = answer_held(c.counts, tokens, names, t);
+    ended(c, tokens, h)
+}
+
+fn answer_held(c: Counts, tokens: &[u64], names: &[u8], t: Told) -> Mark {
+    let numbers = t.numbers;
+    let h = mark_at(wrapping_add_usize(t.inputs, 1));
+    held_first(c, tokens, h, names, &numbers[..], t.width)
+}
+
+// What was compared counts, also where the line is too short or too long.
+fn ended(c: Course, tokens: &[u64], h: Mark) -> Course {
+    let next = counted(c, h.compared, h.differ);
+    if h.at != tokens.len() {
+        return faulty(next, WRONG_COUNT);
+    }
+    next
+}
+
+// An answer, the state after it, and the buffers. The state is the next line's.
+pub fn hold_all(
+    c: Course,
+    words: &[u64],
+    cells: &[u64],
+    tokens: &[u64],
+    names: &[u8],
+    o: Outcome,
+) -> Course {
+    let state = o.state;
+    let next = Course {
+        state,
+        words: o.words,
+        cells: o.cells,
+        ..c
+    };
+    let told = o.told;
+    let h = answer_held(c.counts, tokens, names, told);
+    let h = state_held(c.counts, tokens, h, state);
+    if c.full == 0 {
+        return sums_held(next, words, cells, tokens, h);
+    }
+    buffers_held(next, words, cells, tokens, h)
+}
+
+// The state, between bars.
+fn state_held(c: Counts, tokens: &[u64], h: Mark, state: [u64; 11]) -> Mark {
+    let names =
+        b"D       M       words   L       count   len     flag    current ireg    f32     f64     ";
+    let h = held(c, tokens, h, b"bar 2   ", &[BAR]);
+    let h = held(c, tokens, h, names, &state[..]);
+    held(c, tokens, h, b"bar 3   ", &[BAR])
+}
+
+// Every lent word, a bar, and every lent cell.
+fn buffers_held(c: Course, words: &[u64], cells: &[u64], tokens: &[u64], h: Mark) -> Course {
+    let h = held_first(c.counts, tokens, h, b"word", words, c.words);
+    let h = held(c.counts, tokens, h, b"bar 4   ", &[BAR]);
+    let h = held_first(c.counts, tokens, h, b"cell", cells, c.cells);
+    ended(c, tokens, h)
+}
+
+// The lent words as a sum, a bar, and the lent cells as a sum.
+fn sums_held(c: Course, words: &[u64], cells: &[u64], tokens: &[u64], h: Mark) -> Course {
+    let n = summed(c.words);
+    let sums = [sum_of(words, n), BAR, sum_of(cells, c.cells)];
+    let h = held(c.counts, tokens, h, b"words   bar 4   cells   ", &sums[..]);
+    ended(c, tokens, h)
+}
+
+fn summed(lent: usize) -> usize {
+    if lent < SUMMED {
+        return lent;
+    }
+    SUMMED
+}

@@ -1,7 +1,7 @@
 //! The parties that are compared with the reading, step by step.
 
 #[cfg(target_arch = "x86_64")]
-mod convert;
+pub mod convert;
 #[cfg(target_arch = "x86_64")]
 mod ours;
 mod rust;

@@ -3,10 +3,14 @@
 use super::call::Call;
 use super::desk::Desk;
 use super::straight::Straight;
-use crate::plain::{HostFrame, Regs, Replay, State};
+use crate::party::convert::{raw_host, raw_regs, raw_state};
+use crate::plain::{HostFrame, Regs, Replay};
 use crate::reading::RECORD_BYTES;
 use cattlecleat::raw;
 use std::ops::Range;
+
+/// No noise beside a flag of 0.
+const QUIET: u64 = 0;
 
 struct Archive {
     state: raw::State,
@@ -18,7 +22,7 @@ struct Archive {
 /// What the archive finds otherwise, called on a desk as it was before: the answer, and the desk after it.
 pub fn difference(call: &Call, before: Desk, answer: &[u64], after: &Desk) -> Option<String> {
     let mut archive = Archive {
-        state: raw_state(&before.world.state),
+        state: raw_state(&before.world.state, QUIET),
         words: before.world.words,
         cells: before.world.cells,
         trace: before.trace,
@@ -32,7 +36,7 @@ pub fn difference(call: &Call, before: Desk, answer: &[u64], after: &Desk) -> Op
 
 impl Archive {
     fn differs(&self, after: &Desk) -> Option<String> {
-        let wanted = raw_state(&after.world.state);
+        let wanted = raw_state(&after.world.state, QUIET);
         if self.state != wanted {
             return Some(format!("the archive's state is {:?}, not {wanted:?}", self.state));
         }
@@ -105,13 +109,7 @@ impl Archive {
     }
 
     fn part(&mut self, frame: &HostFrame) -> Vec<u64> {
-        let frame = raw::HostFrame {
-            start: frame.start as usize,
-            end: frame.end as usize,
-            params: frame.params,
-            results: frame.results,
-        };
-        let part = raw::host_part(self.state, &self.words, &self.cells, frame);
+        let part = raw::host_part(self.state, &self.words, &self.cells, raw_host(frame));
         vec![part.number, part.offset as u64, part.params as u64, part.results as u64]
     }
 
@@ -143,29 +141,6 @@ impl Archive {
         let words = self.trace.chunks_exact(8).take(6);
         let words = words.map(|eight| eight.iter().fold(0, |word, byte| word << 8 | u64::from(*byte)));
         [number].into_iter().chain(words).collect()
-    }
-}
-
-fn raw_state(s: &State) -> raw::State {
-    let [depth, height, words, cells, count, len] = [s.depth, s.height, s.words, s.cells, s.count, s.len].map(|n| n as usize);
-    raw::State {
-        depth,
-        height,
-        words,
-        cells,
-        count,
-        len,
-        current_flag: s.current.is_some().into(),
-        current: s.current.unwrap_or(0),
-        regs: raw_regs(&s.regs),
-    }
-}
-
-fn raw_regs(regs: &Regs) -> raw::Registers {
-    raw::Registers {
-        ireg: regs.ireg,
-        freg32: f32::from_bits(regs.freg32),
-        freg64: f64::from_bits(regs.freg64),
     }
 }
 

@@ -73,11 +73,7 @@ mod tests {
 
     #[test]
     fn what_is_expected_is_counted() {
-        let expected = vec![
-            numbers(&[4, 0]),
-            vec![Token::Pair(0, 0)],
-            vec![Token::Number(2)],
-        ];
+        let expected = vec![numbers(&[4, 0]), vec![Token::Pair(0, 0)], vec![Token::Number(2)]];
         let asked = row("pop", expected);
         assert_eq!((asked.compared(), asked.number(), asked.asks()), (5, Some(4), true));
         assert_eq!(row("into", vec![numbers(&[4])]).number(), None);

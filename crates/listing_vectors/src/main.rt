@@ -1,5 +1,5 @@
-// Runs traces from data/ with a given fuel and prints their listings, three records a block. The expected lines (stdout) come from a plain model of document
-// 01's replay, written for them in another language; none is taken from a run of this program.
+// Runs traces from data/ with a given fuel and prints their listings, three records a block. The expected lines (stdout) are those of a plain
+// reading of document 01 (rust/beside/src/programs); none is taken from a run of this program.
 mod parts;
 mod say;
 

@@ -1,5 +1,5 @@
-// Runs the host part: its answer, the parts that are lent, and a routine called over them. The expected lines (stdout) are worked out from
-// document 01, 'Host' of 'Steps' and numbers 9 and 11; none is taken from a run of this program.
+// Runs the host part: its answer, the parts that are lent, and a routine called over them. The expected lines (stdout) are those
+// of a plain reading of document 01 (rust/beside/src/programs); none is taken from a run of this program.
 mod parts;
 mod say;
 

@@ -1,5 +1,5 @@
-// Runs the vectors of the reader. The expected lines (stdout) are worked out from document 01, 'Trace records and fuel', by a plain model of its table;
-// none is taken from a run of this program.
+// Runs the vectors of the reader. The expected lines (stdout) are those of a plain reading of document 01 (rust/beside/src/programs); none is taken
+// from a run of this program.
 mod answers;
 mod say;
 mod traces;

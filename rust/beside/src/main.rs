@@ -13,6 +13,8 @@ mod leaves;
 mod mission;
 mod party;
 mod plain;
+#[cfg(test)]
+mod programs;
 mod reading;
 mod rng;
 mod shrink;

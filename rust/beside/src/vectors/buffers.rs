@@ -1,7 +1,9 @@
 //! The two buffers and the trace that a file is run over, and sums over them.
 
+use crate::case::FRAME_WORDS;
+
 /// Rows for one frame more than the largest depth limit.
-pub const BUFFER_WORDS: usize = 4 * 65_537;
+pub const BUFFER_WORDS: usize = FRAME_WORDS as usize * 65_537;
 
 /// Cells for the largest counts behind a start.
 pub const BUFFER_CELLS: usize = 65_540;

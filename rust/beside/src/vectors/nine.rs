@@ -1,6 +1,7 @@
 //! The causes of 9, one line each, and those of 14.
 
 use super::line::{HIGHER, LOWER, Line};
+use crate::case::FRAME_WORDS;
 use crate::reading::Reading;
 
 const MAX_DEPTH: u128 = 65_536;
@@ -29,7 +30,7 @@ pub fn nine(world: &Reading, frames: u64) -> Vec<Line> {
         above("D above its limit", depth, MAX_DEPTH),
         above("M above its limit", height, MAX_CELLS),
         above("L above its limit", cells, MAX_CELLS),
-        above("4 D above the words", u128::from(s.depth.wrapping_mul(4)), words),
+        above("4 D above the words", u128::from(s.depth.wrapping_mul(FRAME_WORDS)), words),
         above("count above D", count, depth),
         above("len above L", len, cells),
         above("len above M", len, height),
@@ -77,6 +78,6 @@ pub fn fourteen(bytes: u64, depth: u64, words: usize, cells: usize) -> Vec<Line>
         above("bytes above their limit", bytes.into(), MAX_BYTES),
         above("D above its limit", depth.into(), MAX_DEPTH),
         above("L above its limit", cells as u128, MAX_CELLS),
-        above("4 D above the words", depth.wrapping_mul(4).into(), words as u128),
+        above("4 D above the words", depth.wrapping_mul(FRAME_WORDS).into(), words as u128),
     ]
 }

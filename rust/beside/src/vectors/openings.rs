@@ -2,12 +2,13 @@
 
 use super::maker::{Made, Maker};
 use super::moves::Move;
+use crate::case::FRAME_WORDS;
 use crate::example::NOTHING;
 use crate::plain::Request;
 
 /// A height limit in cells and seven bytes more, which the division drops; depth limit, words beyond four for each frame, cells.
 const fn world(height: u64, depth: u64, more_words: u64, cells: u64) -> [u64; 4] {
-    [8 * height + 7, depth, 4 * depth + more_words, cells]
+    [8 * height + 7, depth, FRAME_WORDS * depth + more_words, cells]
 }
 
 /// M below, equal to and above L; D and L small and large. Beside each how many steps are taken in each mood.

@@ -1,6 +1,7 @@
 //! Small worlds for the search: a sound one, most often broken in one place or two, and something to ask in it.
 
 use super::moves::Move;
+use crate::case::FRAME_WORDS;
 use crate::plain::{HostFrame, Regs, Request, State};
 use crate::reading::Reading;
 use crate::rng::Rng;
@@ -19,9 +20,11 @@ pub fn candidate(rng: &mut Rng, there: &[u64]) -> (Reading, Move) {
 fn sound(rng: &mut Rng, there: &[u64]) -> Reading {
     let depth = rng.below(4);
     let [height, cells] = [rng.below(10), rng.below(10)];
-    let words = 4 * depth + rng.pick(&[0, 4, 8]);
+    let words = FRAME_WORDS * (depth + rng.pick(&[0, 1, 2]));
     let len = rng.below(height.min(cells) + 1);
-    let rows = (10..).zip(there.chunks_exact(4)).take(words as usize / 4);
+    let rows = (10..)
+        .zip(there.chunks_exact(FRAME_WORDS as usize))
+        .take((words / FRAME_WORDS) as usize);
     let rows = rows.flat_map(|(ip, row)| good_row(rng, ip, row, len)).collect();
     let state = State {
         depth,
@@ -89,7 +92,7 @@ fn spoil_row(rng: &mut Rng, s: &State, words: &mut [u64]) {
         (2, 1),
         (3, 1),
     ]);
-    let at = usize::try_from(row.wrapping_mul(4).wrapping_add(field)).ok();
+    let at = usize::try_from(row.wrapping_mul(FRAME_WORDS).wrapping_add(field)).ok();
     at.and_then(|at| words.get_mut(at)).into_iter().for_each(|place| *place = word);
 }
 

@@ -1,5 +1,6 @@
 //! What the words over a group claim, looked at while the group is made: so no group shows something else than it says.
 
+use crate::case::FRAME_WORDS;
 use crate::plain::{Answer, Request};
 use crate::vectors::maker::{Made, Maker};
 use std::fmt::{Debug, Display};
@@ -39,5 +40,5 @@ pub fn opened(maker: &mut Maker, opening: [u64; 4]) -> Made<()> {
 /// The ip, start, debt flag and debt of a frame.
 pub fn row(maker: &Maker, index: usize) -> [u64; 4] {
     let words = maker.world().words;
-    std::array::from_fn(|i| words[4 * index + i])
+    std::array::from_fn(|i| words[FRAME_WORDS as usize * index + i])
 }

@@ -2,6 +2,7 @@
 
 use super::claims::{all_asked, expect, opened};
 use super::kinds::{IP, calling, naming, pop, push};
+use crate::case::FRAME_WORDS;
 use crate::plain::Request;
 use crate::vectors::maker::{Made, Maker};
 
@@ -44,7 +45,7 @@ pub type Group = (&'static str, &'static [(Scene, Request, u64)]);
 impl Scene {
     /// Opens it and pushes its frames. Without frames one comes and goes, so that `len` is 6.
     pub fn stand(&self, maker: &mut Maker) -> Made<()> {
-        opened(maker, [8 * self.height, self.depth, 4 * self.depth + 1, CELLS])?;
+        opened(maker, [8 * self.height, self.depth, FRAME_WORDS * self.depth + 1, CELLS])?;
         all_asked(maker, &FRAMES[..self.frames])?;
         if self.frames == 0 && self.depth > 0 {
             all_asked(maker, &[FRAMES[0], (pop(1), 1)])?;

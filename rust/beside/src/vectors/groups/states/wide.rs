@@ -3,10 +3,11 @@
 use super::super::claims::expect;
 use super::super::kinds::{IP, RESTORE, pop, push, sync};
 use super::eleven::{Broken, Laid, all_eleven, laid};
+use crate::case::FRAME_WORDS;
 use crate::vectors::maker::{Made, Maker};
 
 const MOST_FRAMES: u64 = 65_536;
-const WORDS: u64 = 4 * MOST_FRAMES;
+const WORDS: u64 = FRAME_WORDS * MOST_FRAMES;
 
 /// One frame, with so many words lent.
 const fn wide(depth: u64, words: u64) -> Laid {
@@ -16,10 +17,14 @@ const fn wide(depth: u64, words: u64) -> Laid {
 const CASES: [(&str, Laid, Broken); 4] = [
     (
         "9: not with D 65,536 and words for one frame more",
-        wide(MOST_FRAMES, WORDS + 4),
+        wide(MOST_FRAMES, WORDS + FRAME_WORDS),
         Broken::Nothing,
     ),
-    ("9: D 65,537 with words for it", wide(MOST_FRAMES + 1, WORDS + 4), Broken::State),
+    (
+        "9: D 65,537 with words for it",
+        wide(MOST_FRAMES + 1, WORDS + FRAME_WORDS),
+        Broken::State,
+    ),
     ("9: not with D 65,536 and 262,144 words", wide(MOST_FRAMES, WORDS), Broken::Nothing),
     ("9: D 65,536 with 262,143 words", wide(MOST_FRAMES, WORDS - 1), Broken::State),
 ];

@@ -1,4 +1,8 @@
 // Floats by their bits. The logic has one NaN: each NaN's pattern makes one, and each NaN is told by the quiet NaN's pattern.
+use crate::tokens::token;
+
+const LARGEST_SINGLE: u64 = 0xffff_ffff;
+
 const QUIET_NAN_32: u32 = 0x7fc0_0000;
 
 const QUIET_NAN_64: u64 = 0x7ff8_0000_0000_0000;
@@ -43,4 +47,9 @@ pub fn double_bits(x: f64) -> u64 {
         return QUIET_NAN_64;
     }
     f64::to_bits(x)
+}
+
+// Whether the number at a place of a line fits an f32's bits.
+pub fn is_single(tokens: &[u64], k: usize) -> bool {
+    token(tokens, k) <= LARGEST_SINGLE
 }

@@ -1,5 +1,11 @@
 // What is printed: differences and bad lines, each with its file and line, and what was counted.
+use crate::counts::BAD;
+use crate::counts::COMPARED;
 use crate::counts::Counts;
+use crate::counts::DIFFER;
+use crate::counts::ENTRIES;
+use crate::counts::FILE;
+use crate::counts::LINE;
 use crate::tokens::BAR;
 use crate::tokens::MISSING;
 use libc::STDOUT_FILENO;
@@ -54,8 +60,9 @@ pub fn too_long(file: usize) {
 }
 
 fn place(c: Counts) {
-    file_name(c.file);
-    number(b":", c.line);
+    let numbers = c.numbers;
+    file_name(numbers[FILE] as usize);
+    number(b":", numbers[LINE]);
     text(b": ");
 }
 
@@ -111,22 +118,22 @@ fn part(names: &[u8], k: u64) {
 }
 
 pub fn sum(c: Counts) {
-    file_name(c.file);
-    number(b": ", c.line);
-    let sums = c.sums;
-    counted(b" lines, ", sums);
+    let numbers = c.numbers;
+    file_name(numbers[FILE] as usize);
+    number(b": ", numbers[LINE]);
+    counted(b" lines, ", numbers);
 }
 
 pub fn total(files: u64, c: Counts) {
+    let numbers = c.numbers;
     number(b"all: ", files);
-    let sums = c.sums;
-    counted(b" files, ", sums);
+    counted(b" files, ", numbers);
 }
 
-fn counted(of: &[u8], sums: [u64; 4]) {
-    number(of, sums[0]);
-    number(b" entries, ", sums[1]);
-    number(b" numbers compared, ", sums[2]);
-    number(b" differ, ", sums[3]);
+fn counted(of: &[u8], numbers: [u64; 6]) {
+    number(of, numbers[ENTRIES]);
+    number(b" entries, ", numbers[COMPARED]);
+    number(b" numbers compared, ", numbers[DIFFER]);
+    number(b" differ, ", numbers[BAD]);
     text(b" bad lines\n");
 }

@@ -1,11 +1,6 @@
 // Lines that ask something of a stack: the answer, the state after it and both buffers are held to what the line expects.
-use crate::course::Course;
-use crate::course::faulty;
-use crate::holding::hold_all;
-use crate::states::is_single;
 use crate::states::registers_of;
 use crate::states::state_of;
-use crate::told::Outcome;
 use crate::told::answer_told;
 use crate::told::part_told;
 use crate::words::NO_KIND;
@@ -19,6 +14,10 @@ use station::cattlecleat_read_record;
 use station::cattlecleat_sync_registers;
 use station::cattlecleat_write_record;
 use std::num::wrapping_add_usize;
+use vector_text::course::Course;
+use vector_text::course::faulty;
+use vector_text::floats::is_single;
+use vector_text::holding::hold_all;
 use vector_text::say::NO_SUCH_WORD;
 use vector_text::say::OUTSIDE;
 use vector_text::say::TOO_LARGE;
@@ -28,6 +27,7 @@ use vector_text::tokens::count;
 use vector_text::tokens::least;
 use vector_text::tokens::place;
 use vector_text::tokens::token;
+use vector_text::told::Outcome;
 use vector_text::traces::lay;
 
 const RECORD_BYTES: usize = 40;
@@ -107,16 +107,19 @@ fn requested(
     let w = least(c.words, words.len());
     let m = least(c.cells, cells.len());
     let before = c.state;
-    let s = state_of(before);
-    let a = cattlecleat_ask(s, &mut words[0..w], &mut cells[0..m], q);
-    hold_all(
-        c,
-        words,
-        cells,
-        tokens,
-        &ANSWER,
-        answer_told(inputs, w, m, a),
-    )
+    let o = asked_over(before, &mut words[0..w], &mut cells[0..m], inputs, q);
+    hold_all(c, words, cells, tokens, &ANSWER, o)
+}
+
+fn asked_over(
+    before: [u64; 11],
+    words: &mut [u64],
+    cells: &mut [u64],
+    inputs: usize,
+    q: CRequest,
+) -> Outcome {
+    let a = cattlecleat_ask(state_of(before), words, cells, q);
+    answer_told(inputs, words.len(), cells.len(), a)
 }
 
 // Both buffers are refilled first: word i is 1000 and i, cell i is 2000 and i.
@@ -147,51 +150,40 @@ fn open_over(c: Course, words: &[u64], cells: &[u64], tokens: &[u64]) -> Course 
     let w = least(place(tokens, 3), words.len());
     let m = least(place(tokens, 4), cells.len());
     let bytes = place(tokens, 1);
-    let a = cattlecleat_open(bytes, place(tokens, 2), &words[0..w], &cells[0..m]);
-    hold_all(c, words, cells, tokens, &ANSWER, answer_told(4, w, m, a))
+    let o = opened_over(bytes, place(tokens, 2), &words[0..w], &cells[0..m]);
+    hold_all(c, words, cells, tokens, &ANSWER, o)
+}
+
+fn opened_over(bytes: usize, depth: usize, words: &[u64], cells: &[u64]) -> Outcome {
+    let a = cattlecleat_open(bytes, depth, words, cells);
+    answer_told(4, words.len(), cells.len(), a)
 }
 
 pub fn synced(c: Course, words: &[u64], cells: &[u64], tokens: &[u64]) -> Course {
     if !is_single(tokens, 2) {
         return faulty(c, TOO_LARGE);
     }
-    let regs = registers_of(token(tokens, 1), token(tokens, 2), token(tokens, 3));
-    synced_with(c, words, cells, tokens, regs)
-}
-
-fn synced_with(c: Course, words: &[u64], cells: &[u64], tokens: &[u64], regs: Registers) -> Course {
     let w = least(c.words, words.len());
     let m = least(c.cells, cells.len());
     let before = c.state;
-    let s = state_of(before);
-    let a = cattlecleat_sync_registers(s, &words[0..w], &cells[0..m], regs);
-    hold_all(c, words, cells, tokens, &ANSWER, answer_told(3, w, m, a))
+    let regs = registers_of(token(tokens, 1), token(tokens, 2), token(tokens, 3));
+    let o = synced_over(before, &words[0..w], &cells[0..m], regs);
+    hold_all(c, words, cells, tokens, &ANSWER, o)
+}
+
+fn synced_over(before: [u64; 11], words: &[u64], cells: &[u64], regs: Registers) -> Outcome {
+    let a = cattlecleat_sync_registers(state_of(before), words, cells, regs);
+    answer_told(3, words.len(), cells.len(), a)
 }
 
 pub fn lent(c: Course, words: &[u64], cells: &[u64], tokens: &[u64]) -> Course {
     if !are_counts(tokens, 3) {
         return faulty(c, TOO_LARGE);
     }
-    let frame = HostFrame {
-        start: place(tokens, 1),
-        end: place(tokens, 2),
-        params: count(tokens, 3),
-        results: count(tokens, 4),
-    };
-    lent_for(c, words, cells, tokens, frame)
-}
-
-fn lent_for(c: Course, words: &[u64], cells: &[u64], tokens: &[u64], frame: HostFrame) -> Course {
     let w = least(c.words, words.len());
     let m = least(c.cells, cells.len());
-    let state = c.state;
-    let p = cattlecleat_host_part(state_of(state), &words[0..w], &cells[0..m], frame);
-    let o = Outcome {
-        state,
-        words: w,
-        cells: m,
-        told: part_told(p),
-    };
+    let before = c.state;
+    let o = lent_over(before, &words[0..w], &cells[0..m], frame_in(tokens));
     hold_all(
         c,
         words,
@@ -200,4 +192,24 @@ fn lent_for(c: Course, words: &[u64], cells: &[u64], tokens: &[u64], frame: Host
         b"bar 1   number  offset  params  results ",
         o,
     )
+}
+
+fn frame_in(tokens: &[u64]) -> HostFrame {
+    HostFrame {
+        start: place(tokens, 1),
+        end: place(tokens, 2),
+        params: count(tokens, 3),
+        results: count(tokens, 4),
+    }
+}
+
+// The state is not in the answer: it is as it was.
+fn lent_over(state: [u64; 11], words: &[u64], cells: &[u64], frame: HostFrame) -> Outcome {
+    let p = cattlecleat_host_part(state_of(state), words, cells, frame);
+    Outcome {
+        state,
+        words: words.len(),
+        cells: cells.len(),
+        told: part_told(p),
+    }
 }

@@ -1,7 +1,4 @@
 // What stands on no stack: conversions, the aligned address and the done slot.
-use crate::course::Course;
-use crate::holding::hold;
-use crate::told::Told;
 use crate::typed::number_of;
 use crate::typed::register_of;
 use crate::words::ALIGN;
@@ -16,8 +13,11 @@ use station::cattlecleat_from_register;
 use station::cattlecleat_take_done_reason;
 use station::cattlecleat_to_register;
 use std::num::wrapping_add_usize;
+use vector_text::course::Course;
+use vector_text::holding::hold;
 use vector_text::tokens::BAR;
 use vector_text::tokens::token;
+use vector_text::told::Told;
 
 pub fn leaf(c: Course, tokens: &[u64]) -> Course {
     let word = token(tokens, 0);

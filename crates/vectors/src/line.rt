@@ -5,17 +5,17 @@ use crate::asking::opened;
 use crate::asking::recorded;
 use crate::asking::straight;
 use crate::asking::synced;
-use crate::course::Course;
-use crate::laying::laid_byte;
-use crate::laying::laid_number;
-use crate::laying::laid_record;
-use crate::laying::laid_state;
-use crate::laying::telling;
 use crate::leaves::leaf;
 use crate::tracing::read;
 use crate::tracing::replayed;
 use crate::tracing::written;
 use crate::words;
+use vector_text::course::Course;
+use vector_text::laying::laid_byte;
+use vector_text::laying::laid_number;
+use vector_text::laying::laid_record;
+use vector_text::laying::laid_state;
+use vector_text::laying::telling;
 use vector_text::tokens::token;
 
 pub fn run_line(

@@ -2,9 +2,6 @@
 ghost use Prim.Native.Nat.{_≤_};
 
 mod asking;
-mod course;
-mod holding;
-mod laying;
 mod leaves;
 mod line;
 mod states;
@@ -13,15 +10,15 @@ mod tracing;
 mod typed;
 mod words;
 
-use course::Course;
-use course::faulty;
-use course::fresh_course;
-use course::moved_on;
 use line::run_line;
 use vector_text::counts::Counts;
 use vector_text::counts::a_bad_line_more;
 use vector_text::counts::joined;
 use vector_text::counts::none_of;
+use vector_text::course::Course;
+use vector_text::course::faulty;
+use vector_text::course::fresh_course;
+use vector_text::course::moved_on;
 use vector_text::reading::read_line;
 use vector_text::say;
 

@@ -7,9 +7,6 @@ use vector_text::floats::double_bits;
 use vector_text::floats::double_of;
 use vector_text::floats::single_bits;
 use vector_text::floats::single_of;
-use vector_text::tokens::token;
-
-const LARGEST_SINGLE: u64 = 0xffff_ffff;
 
 pub fn state_of(s: [u64; 11]) -> CState {
     CState {
@@ -44,9 +41,4 @@ pub fn state_told(s: CState) -> [u64; 11] {
 
 pub fn registers_of(ireg: u64, single: u64, double: u64) -> Registers {
     Registers::stored(ireg, single_of(single), double_of(double))
-}
-
-// Whether the number at a place of a line fits an f32's bits.
-pub fn is_single(tokens: &[u64], k: usize) -> bool {
-    token(tokens, k) <= LARGEST_SINGLE
 }

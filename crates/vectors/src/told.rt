@@ -1,4 +1,4 @@
-// What came of a line, as the numbers that it tells: a bar, then the answer's.
+// What the C face answers, as the numbers that a line tells.
 use crate::states::state_told;
 use station::CAnswer;
 use station::CPart;
@@ -7,21 +7,8 @@ use station::CRun;
 use vector_text::floats::double_bits;
 use vector_text::floats::single_bits;
 use vector_text::tokens::BAR;
-
-// How many numbers were given before it, how many it tells, and which.
-pub struct Told {
-    pub inputs: usize,
-    pub width: usize,
-    pub numbers: [u64; 13],
-}
-
-// An answer with the state after it, over so many words and cells.
-pub struct Outcome {
-    pub state: [u64; 11],
-    pub words: usize,
-    pub cells: usize,
-    pub told: Told,
-}
+use vector_text::told::Outcome;
+use vector_text::told::Told;
 
 pub fn answer_told(inputs: usize, words: usize, cells: usize, a: CAnswer) -> Outcome {
     let state = a.state;

@@ -1,17 +1,16 @@
 // Lines on the bytes of the trace: replayed over a stack, or a record read and written.
 use crate::asking::request_at;
-use crate::course::Course;
-use crate::course::faulty;
-use crate::holding::hold;
-use crate::holding::hold_all;
 use crate::states::state_of;
-use crate::told::Told;
 use crate::told::read_told;
 use crate::told::run_told;
 use station::CRun;
 use station::cattlecleat_read_record;
 use station::cattlecleat_replay;
 use station::cattlecleat_write_record;
+use vector_text::course::Course;
+use vector_text::course::faulty;
+use vector_text::holding::hold;
+use vector_text::holding::hold_all;
 use vector_text::say::OUTSIDE;
 use vector_text::say::TOO_LARGE;
 use vector_text::tokens::BAR;
@@ -19,6 +18,8 @@ use vector_text::tokens::are_five_counts;
 use vector_text::tokens::least;
 use vector_text::tokens::place;
 use vector_text::tokens::token;
+use vector_text::told::Outcome;
+use vector_text::told::Told;
 use vector_text::traces::word_at;
 
 // A part of the trace, so many times one after another.
@@ -50,17 +51,8 @@ fn replayed_part(
     let w = least(c.words, words.len());
     let m = least(c.cells, cells.len());
     let before = c.state;
-    let state = state_of(before);
-    let run = CRun {
-        state,
-        number: token(tokens, 1),
-        fuel: token(tokens, 2),
-        spent: token(tokens, 3),
-        stopflag: token(tokens, 4),
-        cost: token(tokens, 5),
-    };
-    let after = replay_times(
-        run,
+    let o = replayed_over(
+        run_in(before, tokens),
         &mut words[0..w],
         &mut cells[0..m],
         part,
@@ -72,8 +64,31 @@ fn replayed_part(
         cells,
         tokens,
         b"bar 1   number  fuel    spent   stopped cost    ",
-        run_told(w, m, after),
+        o,
     )
+}
+
+fn run_in(before: [u64; 11], tokens: &[u64]) -> CRun {
+    let state = state_of(before);
+    CRun {
+        state,
+        number: token(tokens, 1),
+        fuel: token(tokens, 2),
+        spent: token(tokens, 3),
+        stopflag: token(tokens, 4),
+        cost: token(tokens, 5),
+    }
+}
+
+fn replayed_over(
+    run: CRun,
+    words: &mut [u64],
+    cells: &mut [u64],
+    part: &[u8],
+    times: u64,
+) -> Outcome {
+    let after = replay_times(run, words, cells, part, times);
+    run_told(words.len(), cells.len(), after)
 }
 
 fn replay_times(run: CRun, words: &mut [u64], cells: &mut [u64], part: &[u8], times: u64) -> CRun {

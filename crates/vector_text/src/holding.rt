@@ -1,18 +1,18 @@
 // What came of a line, held to what it expects: the answer, then the state, then both buffers.
+use crate::counts::Counts;
 use crate::course::Course;
 use crate::course::counted;
 use crate::course::faulty;
+use crate::held::Mark;
+use crate::held::held;
+use crate::held::held_first;
+use crate::held::mark_at;
+use crate::say::WRONG_COUNT;
+use crate::sums::sum_of;
+use crate::tokens::BAR;
 use crate::told::Outcome;
 use crate::told::Told;
 use std::num::wrapping_add_usize;
-use vector_text::counts::Counts;
-use vector_text::held::Mark;
-use vector_text::held::held;
-use vector_text::held::held_first;
-use vector_text::held::mark_at;
-use vector_text::say::WRONG_COUNT;
-use vector_text::sums::sum_of;
-use vector_text::tokens::BAR;
 
 // Sums are over so many words at the most.
 const SUMMED: usize = 256;

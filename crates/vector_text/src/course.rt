@@ -1,10 +1,10 @@
 // A run of a file in its course: the state, the lengths that are lent, how the buffers are told, the place in the text, and what was counted.
-use vector_text::counts::Counts;
-use vector_text::counts::a_bad_line_more;
-use vector_text::counts::a_line_more;
-use vector_text::counts::entered;
-use vector_text::counts::none_of;
-use vector_text::say;
+use crate::counts::Counts;
+use crate::counts::a_bad_line_more;
+use crate::counts::a_line_more;
+use crate::counts::entered;
+use crate::counts::none_of;
+use crate::say;
 
 // The state has its numbers in the order in which a line tells them.
 pub struct Course {

@@ -2,13 +2,13 @@
 use crate::course::Course;
 use crate::course::counted;
 use crate::course::faulty;
-use crate::states::is_single;
-use vector_text::say::OUTSIDE;
-use vector_text::say::TOO_LARGE;
-use vector_text::say::WRONG_COUNT;
-use vector_text::tokens::place;
-use vector_text::tokens::token;
-use vector_text::traces::lay;
+use crate::floats::is_single;
+use crate::say::OUTSIDE;
+use crate::say::TOO_LARGE;
+use crate::say::WRONG_COUNT;
+use crate::tokens::place;
+use crate::tokens::token;
+use crate::traces::lay;
 
 const RECORD_BYTES: usize = 40;
 

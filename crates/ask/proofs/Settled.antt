@@ -4,14 +4,14 @@ use denote.Ref.{now}
 use Rattle.choice.specs.Once.{Once, OnceSeen, beside}
 use Rattle.rules.proofs.OneAnswer.{judgements-once, shown-outcome, shown-words, shown-cells}
 use Rattle.ask.proofs.judge.Reads as judge
-use Rattle.ask.proofs.step_in.Reads as step-in
+use Rattle.ask.proofs.step.Reads as step
 use Rattle.ask.proofs.ask.Reads as ask-any
 
 pub judge-settled : Once judge.Post
 judge-settled κ a r r′ e e′ p q = judgements-once r r′ (p ∙ sym q)
 
-pub step-in-settled : OnceSeen step-in.Post (λ κ r e. beside r (beside (now (e .1 .0)) (now (e .1 .1 .0))))
-step-in-settled κ a r r′ e e′ p q = λ t. (
+pub step-settled : OnceSeen step.Post (λ κ r e. beside r (beside (now (e .1 .0)) (now (e .1 .1 .0))))
+step-settled κ a r r′ e e′ p q = λ t. (
   shown-outcome r r′ _ _ _ _ (p ∙ sym q) t,
   (shown-words r r′ _ _ _ _ (p ∙ sym q) t, shown-cells r r′ _ _ _ _ (p ∙ sym q) t),
 )

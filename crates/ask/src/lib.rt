@@ -9,25 +9,25 @@ use rules::Outcome;
 use rules::Request;
 use rules::Room;
 use rules::State;
-use stack::emptied_in;
 use stack::judge_reset;
 use stack::judge_restore;
 use stack::judge_set;
 use stack::judge_sync;
 use stack::refused;
-use stack::restored_in;
-use stack::set_in;
-use stack::synced_in;
+use stack::step_reset;
+use stack::step_restore;
+use stack::step_set;
+use stack::step_sync;
 use stack_calls::judge_pop;
 use stack_calls::judge_push;
 use stack_calls::judge_replace;
-use stack_calls::popped_in;
-use stack_calls::pushed_in;
-use stack_calls::replaced_in;
-use stack_hosts::hosted_in;
+use stack_calls::step_pop;
+use stack_calls::step_push;
+use stack_calls::step_replace;
 use stack_hosts::judge_host;
 use stack_hosts::judge_return_host;
-use stack_hosts::returned_host_in;
+use stack_hosts::step_host;
+use stack_hosts::step_return_host;
 
 // Whether a request is refused.
 pub fn judge(s: State, words: &[u64], cells: &[u64], q: Request) -> Judgement
@@ -47,21 +47,21 @@ pub fn judge(s: State, words: &[u64], cells: &[u64], q: Request) -> Judgement
     }
 }
 
-// The step of a request that was not refused, in its room.
-pub fn step_in(s: State, words: &mut [u64], cells: &mut [u64], q: Request, room: Room) -> Outcome
+// The step of a request after `judge` gave this room, and no request itself: it refuses nothing.
+pub fn step(s: State, words: &mut [u64], cells: &mut [u64], q: Request, room: Room) -> Outcome
     ensures { λ r. ⌜ shownOutcome r (now (words .exit)) (now (cells .exit))
         ≡ effectIn (worldOf s (now (words .entry)) (now (cells .entry))) (Traced q) room ⌝ }
 {
     match q {
-        Request::Push(args) => pushed_in(s, words, cells, args, room),
-        Request::Pop(instance) => popped_in(s, words, cells, instance, room),
-        Request::Replace(args) => replaced_in(s, words, cells, args, room),
-        Request::Host(args) => hosted_in(s, words, cells, args, room),
-        Request::ReturnHost(args) => returned_host_in(s, words, cells, args, room),
-        Request::Sync(ip) => synced_in(s, words, cells, ip, room),
-        Request::Restore => restored_in(s, words, cells, room),
-        Request::Reset => emptied_in(s, words, cells),
-        Request::Set(_, cell) => set_in(s, words, cells, cell, room),
+        Request::Push(args) => step_push(s, words, cells, args, room),
+        Request::Pop(instance) => step_pop(s, words, cells, instance, room),
+        Request::Replace(args) => step_replace(s, words, cells, args, room),
+        Request::Host(args) => step_host(s, words, cells, args, room),
+        Request::ReturnHost(args) => step_return_host(s, words, cells, args, room),
+        Request::Sync(ip) => step_sync(s, words, cells, ip, room),
+        Request::Restore => step_restore(s, words, cells, room),
+        Request::Reset => step_reset(s, words, cells),
+        Request::Set(_, cell) => step_set(s, words, cells, cell, room),
     }
 }
 
@@ -72,6 +72,6 @@ pub fn ask(s: State, words: &mut [u64], cells: &mut [u64], q: Request) -> Outcom
 {
     match judge(s, words, cells, q) {
         Judgement::Refuse(why) => refused(s, why),
-        Judgement::Accept(room) => step_in(s, words, cells, q, room),
+        Judgement::Accept(room) => step(s, words, cells, q, room),
     }
 }

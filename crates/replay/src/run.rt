@@ -10,7 +10,7 @@ ghost use Rattle.replay.specs.Costs.{workOf};
 ghost use Rattle.replay.specs.Running.{runningOf, startedRun, runStopped, runMoved, ranBy, shownRan, ranAt, ranOn, ran};
 use crate::cost::cost_of;
 use ask::judge;
-use ask::step_in;
+use ask::step;
 use given::Given;
 use given::is_given;
 use record::BAD_RECORD;
@@ -125,7 +125,7 @@ fn run_in(run: Run, words: &mut [u64], cells: &mut [u64], q: Request, room: Room
         return stopped_before(run, cost);
     }
     let total = spent + cost;
-    let out = step_in(state, words, cells, q, room);
+    let out = step(state, words, cells, q, room);
     let answer = out.answer;
     went_on(
         run,

@@ -36,8 +36,9 @@ pub fn is_beyond(some: bool, len: usize, end: usize) -> bool
     some & (len < end)
 }
 
-// The step of a return, in the room that was judged: the newest frame goes, and the host frame given is answered with it. No cell is written here.
-pub fn returned_in(
+// The step of a return after its judgement gave this room, and no request: the newest frame goes, and the host frame given is answered with it. It
+// refuses nothing and writes no cell.
+pub fn step_return(
     s: State,
     words: &[u64],
     cells: &[u64],

@@ -14,7 +14,7 @@ use rules::State;
 use stack::is_broken_next;
 use stack::no_host;
 use stack::refused;
-use stack::returned_in;
+use stack::step_return;
 use stack::top_start;
 
 // Whether a pop is refused: 9, 4.
@@ -47,13 +47,13 @@ pub fn pop_frame(s: State, words: &[u64], cells: &[u64], instance: u64) -> Outco
 {
     match judge_pop(s, words, cells) {
         Judgement::Refuse(why) => refused(s, why),
-        Judgement::Accept(room) => popped_in(s, words, cells, instance, room),
+        Judgement::Accept(room) => step_pop(s, words, cells, instance, room),
     }
 }
 
-// The step of a pop, in the room that was judged.
-pub fn popped_in(s: State, words: &[u64], cells: &[u64], instance: u64, room: Room) -> Outcome
+// The step of a pop after `judge_pop` gave this room, and no request: it refuses nothing.
+pub fn step_pop(s: State, words: &[u64], cells: &[u64], instance: u64, room: Room) -> Outcome
     ensures { λ r. ⌜ shownOutcome r (now (words .entry)) (now (cells .entry)) ≡ popped (worldOf s (now (words .entry)) (now (cells .entry))) instance room ⌝ }
 {
-    returned_in(s, words, cells, instance, no_host(), room)
+    step_return(s, words, cells, instance, no_host(), room)
 }

@@ -105,12 +105,12 @@ pub fn push_frame(s: State, words: &mut [u64], cells: &mut [u64], q: PushArgs) -
 {
     match judge_push(s, words, cells, q) {
         Judgement::Refuse(why) => refused(s, why),
-        Judgement::Accept(room) => pushed_in(s, words, cells, q, room),
+        Judgement::Accept(room) => step_push(s, words, cells, q, room),
     }
 }
 
-// The step of a push, in the room that was judged.
-pub fn pushed_in(s: State, words: &mut [u64], cells: &mut [u64], q: PushArgs, room: Room) -> Outcome
+// The step of a push after `judge_push` gave this room, and no request: it refuses nothing.
+pub fn step_push(s: State, words: &mut [u64], cells: &mut [u64], q: PushArgs, room: Room) -> Outcome
     ensures { λ r. ⌜ shownOutcome r (now (words .exit)) (now (cells .exit)) ≡ pushed (worldOf s (now (words .entry)) (now (cells .entry))) q room ⌝ }
 {
     let depth = s.depth;

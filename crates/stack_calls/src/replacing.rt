@@ -90,12 +90,12 @@ pub fn replace_frame(s: State, words: &mut [u64], cells: &mut [u64], q: ReplaceA
 {
     match judge_replace(s, words, cells, q) {
         Judgement::Refuse(why) => refused(s, why),
-        Judgement::Accept(room) => replaced_in(s, words, cells, q, room),
+        Judgement::Accept(room) => step_replace(s, words, cells, q, room),
     }
 }
 
-// The step of a replace, in the room that was judged.
-pub fn replaced_in(
+// The step of a replace after `judge_replace` gave this room, and no request: it refuses nothing.
+pub fn step_replace(
     s: State,
     words: &mut [u64],
     cells: &mut [u64],

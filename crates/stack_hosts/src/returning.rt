@@ -21,7 +21,7 @@ use stack::is_broken_next;
 use stack::judge_growth;
 use stack::no_host;
 use stack::refused;
-use stack::returned_in;
+use stack::step_return;
 use stack::top_start;
 
 // Whether a return-host is refused: 9, 4, 7, 2, 3. Note: 7 looks at `len` before growth, where replace looks at it after.
@@ -71,12 +71,12 @@ pub fn return_prepare_host_frame(
 {
     match judge_return_host(s, words, cells, q) {
         Judgement::Refuse(why) => refused(s, why),
-        Judgement::Accept(room) => returned_host_in(s, words, cells, q, room),
+        Judgement::Accept(room) => step_return_host(s, words, cells, q, room),
     }
 }
 
-// The step of a return-host, in the room that was judged.
-pub fn returned_host_in(
+// The step of a return-host after `judge_return_host` gave this room, and no request: it refuses nothing.
+pub fn step_return_host(
     s: State,
     words: &[u64],
     cells: &mut [u64],
@@ -91,7 +91,7 @@ pub fn returned_host_in(
     let some = is_sized(params, results);
     let host = host_frame(some, start, room.end, params, results);
     return_host_cells(cells, some, s.len, room.len, start, q.head, params);
-    returned_in(s, words, cells, q.instance, host, room)
+    step_return(s, words, cells, q.instance, host, room)
 }
 
 // The host's frame, of zeros where it has no cells.

@@ -19,6 +19,6 @@ ask-spec =
     (λ c. search needs)
     (λ c. search needs)
     (λ c.
-    let after-step-in = c .before .before .before .before in
-    let after-room = after-step-in .before .before .before .before in
-    accepted-answer _ _ _ (after-room .before .before .judge .ensures) _ _ (after-room .room .given .1) (after-step-in .step-in .ensures)))
+    let after-step = c .before .before .before .before in
+    let after-room = after-step .before .before .before .before in
+    accepted-answer _ _ _ (after-room .before .before .judge .ensures) _ _ (after-room .room .given .1) (after-step .step .ensures)))

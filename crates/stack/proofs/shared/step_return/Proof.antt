@@ -1,12 +1,12 @@
--- `stack::shared::returned_in` meets its contract: what its calls ensure, part by part. Assumes nothing.
+-- `stack::shared::step_return` meets its contract: what its calls ensure, part by part. Assumes nothing.
 use borrow.Author.Needs.{needs}
 use mathlib.Core.Path.{sym, refl}
 use Rattle.rules.proofs.OneAnswer.{after-same}
-use Rattle.stack.proofs.shared.returned_in.Statement.{statement}
-use Rattle.stack.proofs.shared.returned_in.Tie as tie
+use Rattle.stack.proofs.shared.step_return.Statement.{statement}
+use Rattle.stack.proofs.shared.step_return.Tie as tie
 
-pub returned-in-spec : {M : Type 1} → statement M
-returned-in-spec =
+pub step-return-spec : {M : Type 1} → statement M
+step-return-spec =
     tie.close
     (tie.spec
     (λ c κs. search needs)

@@ -5,13 +5,13 @@ use Rattle.frames.specs.Rows.{tooFewWords, rowAt, putRow, putIp, brokenRow}
 use Rattle.frames.specs.Debts.{newRow, debtOf, owingOf, carriedOf}
 use Rattle.runs.specs.Runs.{cleared, copied}
 use Rattle.cells.specs.Cells.{reached, pushCells, replaceCells, hostCells, returnHostCells, setCell}
-use Rattle.cells.specs.Host.{badHostFrame}
+use Rattle.cells.specs.Host.{badHostFrame, hostPart, hostPlace}
 use Rattle.rules.specs.World.{newestStart}
 use Rattle.rules.specs.Broken.{brokenState, brokenTop, brokenNext}
 use Rattle.rules.specs.Shared.{grownTo, ipStored}
 use Rattle.rules.specs.Calls.{pushTests, pushRoom, pushed, replaceTests, replaceRoom, replaced}
 use Rattle.rules.specs.Returns.{instanceAfter, returnedTo, popTests, popRoom, popped}
-use Rattle.rules.specs.Hosts.{hostTests, hostRoom, hosted, returnHostTests, returnHostRoom, returnedHost, partTests, partRoom, partLent}
+use Rattle.rules.specs.Hosts.{hostTests, hostRoom, hosted, returnHostTests, returnHostRoom, returnedHost, partTests, partRoom, partLent, partCells, partPlace}
 use Rattle.rules.specs.Syncs.{topRoom, syncTests, synced, restoreTests, restored, resetTests, resetRoom, emptied}
 use Rattle.rules.specs.Syncs.{setTests, setRoom, cellSet, registerTests, registerRoom, registersStored}
 use Rattle.rules.specs.Rules.{answered}
@@ -23,7 +23,7 @@ unfolding tooFewWords rowAt putRow putIp brokenRow newRow debtOf owingOf carried
 framesOpened = Unit {0}
 
 unfoldable pub cellsOpened : Type 0
-unfolding cleared copied reached pushCells replaceCells hostCells returnHostCells setCell badHostFrame
+unfolding cleared copied reached pushCells replaceCells hostCells returnHostCells setCell badHostFrame hostPart hostPlace
 cellsOpened = Unit {0}
 
 unfoldable pub lookedAt : Type 0
@@ -35,7 +35,7 @@ unfolding pushTests pushRoom pushed replaceTests replaceRoom replaced instanceAf
 callsOpened = Unit {0}
 
 unfoldable pub hostsOpened : Type 0
-unfolding hostTests hostRoom hosted returnHostTests returnHostRoom returnedHost partTests partRoom partLent
+unfolding hostTests hostRoom hosted returnHostTests returnHostRoom returnedHost partTests partRoom partLent partCells partPlace
 hostsOpened = Unit {0}
 
 unfoldable pub syncsOpened : Type 0

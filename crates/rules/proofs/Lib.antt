@@ -8,6 +8,7 @@ pub mod Kept
 pub mod OneAnswer
 pub mod Promised
 pub mod Returning
+pub mod Pinned
 pub mod SoundMoves
 pub mod Soundness
 pub mod Standing

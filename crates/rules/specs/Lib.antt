@@ -10,6 +10,7 @@ pub mod Reached
 pub mod ReachedWorlds
 pub mod Returns
 pub mod Returning
+pub mod Pinned
 pub mod Rules
 pub mod Shared
 pub mod Sound

@@ -1,0 +1,12 @@
+pub mod Heard
+pub mod Links
+pub mod Answers
+pub mod Openings
+pub mod Leaves
+pub mod Records
+pub mod Registers
+pub mod Returned
+pub mod Parts
+pub mod Meetings
+pub mod Functions
+pub mod Demands

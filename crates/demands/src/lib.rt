@@ -1,0 +1,1 @@
+// Definitions and theorems alone: the demands, by the public functions' own promises.

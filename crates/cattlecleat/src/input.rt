@@ -1,6 +1,6 @@
 // A block of standard input, filled whole unless the input ends.
 use crate::say::least;
-use libc::STDIN_FILENO;
+use crate::wait;
 
 // How many bytes a block has, or that it could not be read.
 pub enum Filled {
@@ -12,7 +12,7 @@ pub fn fill(block: &mut [u8]) -> Filled {
     let mut done = 0;
     while done < block.len() {
         let room = block.len() - done;
-        let got = libc::read(STDIN_FILENO, &mut block[done..]);
+        let got = wait::read(&mut block[done..]);
         if got < 0 {
             return Filled::Failed;
         }

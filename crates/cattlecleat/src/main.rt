@@ -1,8 +1,10 @@
 // cattlecleat: replays a trace and prints document 01's listing of it.
 mod input;
 mod limits;
+mod output;
 mod replaying;
 mod say;
+mod wait;
 mod word;
 
 use word::Word;

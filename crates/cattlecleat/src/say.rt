@@ -1,6 +1,7 @@
 // What is said beside the listing. There is no exit status to give: what went wrong is said on standard error.
 ghost use mathlib.Core.Path.{_≡_};
 ghost use Prim.Native.Nat.{min};
+use crate::output::write_text;
 use libc::STDERR_FILENO;
 use libc::STDOUT_FILENO;
 
@@ -51,7 +52,7 @@ pub fn unfinished() {
 // The first bytes of a text, on standard output.
 pub fn listing(text: &[u8], used: usize) -> bool {
     let end = least(used, text.len());
-    io::write_all(STDOUT_FILENO, &text[0..end])
+    write_text(&text[0..end])
 }
 
 pub fn least(a: usize, b: usize) -> usize

@@ -6,6 +6,8 @@ mod hosts;
 mod layout;
 mod leaves;
 mod nans;
+mod readme;
 mod records;
+mod shared;
 mod unchanged;
 mod world;

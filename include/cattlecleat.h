@@ -1,5 +1,6 @@
-/* Cattlecleat: the C face of the proved call stack, in the archive libstation.a. For x86-64 with the System V calling convention only.
- * C99, and C++ as well; beside the archive a program links the C library alone: cc program.c libstation.a
+/* Cattlecleat: the C face of the proved call stack. For x86-64 with the System V calling convention only. C99, and C++ as well.
+ * `rt staticlib station`, in the repository, proves the archive and writes target/staticlib/libstation.a; beside it a program links the C
+ * library alone: cc -I include program.c target/staticlib/libstation.a
  * The words and numbers are those of document 01, 'The rules and what will be built'.
  *
  * Asked of the caller, of each function alike, and nothing else:

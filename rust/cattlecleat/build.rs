@@ -1,5 +1,5 @@
 //! Links the archive, libstation.a, from the folder that CATTLECLEAT_ARCHIVE names; by default the repository's target/staticlib.
-//! Where it cannot, it says why and goes on: `cargo check` and `cargo doc` need no archive, and the linker stops whatever does.
+//! Where it cannot, it says why and goes on: `cargo check` and `cargo doc` need no archive, and whatever does stops at the library that is not found.
 use std::env;
 use std::path::{Path, PathBuf};
 
@@ -7,13 +7,27 @@ fn main() {
     println!("cargo::rerun-if-env-changed=CATTLECLEAT_ARCHIVE");
     let folder = archive_folder();
     let archive = folder.join("libstation.a");
-    println!("cargo::rerun-if-changed={}", archive.display());
-    if let Some(problem) = problem_with(&archive) {
-        println!("cargo::warning=nothing can be linked: {problem}");
-        return;
+    match problem_with(&archive) {
+        None => watch(&folder, &archive),
+        Some(problem) => {
+            println!("cargo::warning=nothing can be linked: {problem}");
+            look_again();
+        }
     }
     println!("cargo::rustc-link-search=native={}", folder.display());
     println!("cargo::rustc-link-lib=static=station");
+}
+
+/// An archive that takes this one's place may be older than this run, and then its folder is newer.
+fn watch(folder: &Path, archive: &Path) {
+    println!("cargo::rerun-if-changed={}", archive.display());
+    println!("cargo::rerun-if-changed={}", folder.display());
+}
+
+/// A file that is not there counts as changed: this is run at each build, until there is an archive, whatever its date.
+fn look_again() {
+    let out = PathBuf::from(env::var_os("OUT_DIR").expect("cargo names the folder for what is made"));
+    println!("cargo::rerun-if-changed={}", out.join("never-made").display());
 }
 
 fn archive_folder() -> PathBuf {

@@ -1,8 +1,11 @@
 //! The archive's functions as they are: on numbers, slices and structs of numbers, with the state by value in and out.
 //!
 //! Every argument gets an answer, so nothing here is `unsafe` to call: what the C face asks of its caller (true, aligned pointers and
-//! lengths, buffers that do not overlap) is what slices hold by themselves. [`Stack`](crate::Stack) is the comfortable way; this is the
-//! way for a host that keeps the state itself, and for whoever compares every number.
+//! lengths, and that what is written overlaps nothing) is what slices hold by themselves. Two `&[u64]` of one call may overlap, or be the
+//! same: [`open`], [`sync_registers`] and [`host_part`] write to neither, and answer by what each holds.
+//!
+//! [`Stack`](crate::Stack) is the comfortable way; this is the way for a host that keeps the state itself, and for whoever compares every
+//! number.
 //!
 //! A flag of 0 reads as none whatever the number beside it, any other as given.
 //! What changes registers in place are methods of [`Registers`].
@@ -188,7 +191,8 @@ pub struct Done {
     pub slot: Reason,
 }
 
-// Safety of every call below: a slice is a true and aligned pointer, never null, with its length; and `&mut` slices overlap nothing.
+// Safety of every call below: a slice is a true and aligned pointer, never null, with its length; `&mut` slices overlap nothing, and shared ones
+// are only read.
 #[rustfmt::skip]
 unsafe extern "C" {
     fn cattlecleat_open(bytes: usize, depth: usize, words: *const u64, words_len: usize, cells: *const u64, cells_len: usize) -> Answer;

@@ -1,4 +1,4 @@
--- What is handed out and in again is the same: a state, a run, a request. Assumes nothing.
+-- What is handed out and in again is the same: a state, a request. Assumes nothing.
 use mathlib.Core.Path.{_≡_, refl, ap, _∙_}
 use Prim.Native.Nat.{_+_, _/_, _%_}
 use Rattle.given.specs.declared.Given.{Given}
@@ -13,9 +13,8 @@ use Rattle.request.specs.declared.Decoded.the-variants.{Asks}
 use Rattle.request.specs.Requests.{flagBit}
 use Rattle.station.specs.States.{StateKept}
 use Rattle.station.specs.Requests.{requestFrom, RequestKept}
-use Rattle.station.specs.Runs.{RunKept}
 
-given-kept : (g : Given) → givenIf (truthOf (truthBit (isGiven g))) (givenNumber g) ≡ g
+pub given-kept : (g : Given) → givenIf (truthOf (truthBit (isGiven g))) (givenNumber g) ≡ g
 given-kept g = ap (λ b. givenIf b (givenNumber g)) (write-read-bool (isGiven g)) ∙ given-again g
 
 pub state-kept : StateKept
@@ -28,15 +27,6 @@ state-kept s = λ i. record {
   len = s .len;
   current = given-kept (s .current) i;
   regs = s .regs;
-}
-
-pub run-kept : RunKept
-run-kept r = λ i. record {
-  state = state-kept (r .state) i;
-  number = r .number;
-  fuel = r .fuel;
-  spent = r .spent;
-  stop = given-kept (r .stop) i;
 }
 
 -- the two flags of a record, each by itself

@@ -1,3 +1,4 @@
+pub mod Backs
 pub mod Handed
 pub mod Lent
 pub mod Puts
@@ -5,5 +6,6 @@ pub mod ReadBack
 pub mod Settled
 pub mod Signed
 pub mod Slotted
+pub mod Spelt
 pub mod Telling
 pub mod Within

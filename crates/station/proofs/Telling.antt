@@ -1,14 +1,15 @@
 -- What the numbers handed out say, from what the functions below promise. Assumes nothing.
 use mathlib.Core.Path.{_≡_, refl, sym, ap, _∙_}
 use mathlib.Core.List.{List}
-use Prim.Native.Nat.{ℕ}
+use Prim.Native.Nat.{ℕ, _<_}
 use lib.Dec.{leb}
 use borrow.Author.Tests.{le-leb}
 use Rattle.choice.specs.Choose.{choose}
 use Rattle.choice.proofs.Choices.{chosen-either}
 use Rattle.cells.specs.declared.host.HostFrame.{HostFrame}
 use Rattle.record.specs.declared.Written.{Written}
-use Rattle.record.specs.Reading.{ShownWrite, writeNumber, writtenNumber, shownWrite}
+use Rattle.record.specs.Reading.{tooShort, ShownWrite, writeNumber, writtenNumber, shownWrite, writeTests, recordWritten}
+use Rattle.record.proofs.Coding.{kind-beyond}
 use Rattle.rules.specs.declared.Asked.{Asked}
 use Rattle.rules.specs.declared.Asked.the-variants.{Traced}
 use Rattle.rules.specs.declared.State.{State}
@@ -27,13 +28,14 @@ use Rattle.replay.specs.declared.run.Run.{Run}
 use Rattle.replay.specs.Running.{Running, answerTo, runningOf, replayed}
 use Rattle.request.specs.declared.Decoded.{Decoded}
 use Rattle.request.specs.declared.Decoded.the-variants.{Asks, Bad}
-use Rattle.request.specs.Walk.{requestWritten}
 use Rattle.station.specs.declared.state.CState.{CState}
 use Rattle.station.specs.declared.answers.CAnswer.{CAnswer}
 use Rattle.station.specs.Told.{answerWith, stateAfter, answerTold, openingTold, told, afterTold}
 use Rattle.station.specs.declared.traces.CRun.{CRun}
+use Rattle.station.specs.declared.requests.CRequest.{CRequest}
 use Rattle.station.specs.States.{stateTo}
-use Rattle.station.specs.Runs.{runTo, runTold, runningTold}
+use Rattle.station.specs.Requests.{recordSpelt}
+use Rattle.station.specs.Runs.{runBack, runTold, runningBack}
 use Rattle.station.specs.Records.{writtenBy}
 
 -- an answer by its case; a refusal hands the numbers of the state back as they came
@@ -82,9 +84,9 @@ unfolding choose
 none-is-told r h c t ws cs d e tells none reads bad =
     ap (λ x. told x ws cs) (tells ∙ ap (λ x. answerWith 10 (hostValues 0 x) c) none) ∙ ap (λ x. afterTold c (answerTo (worldOf t ws cs) x)) (sym bad ∙ reads)
 
--- a run told is a replay in its course told
-pub run-is-told : (r : CRun) (run : Run) (ws cs : List ℕ) (v : Running) → r ≡ runTo run → runningOf run ws cs ≡ v → runTold r ws cs ≡ runningTold v
-run-is-told r run ws cs v tells runs = ap (λ x. runTold x ws cs) tells ∙ ap runningTold runs
+-- a run handed back is a replay in its course handed back
+pub run-is-told : (r c : CRun) (run : Run) (ws cs : List ℕ) (v : Running) → r ≡ runBack c run → runningOf run ws cs ≡ v → runTold r ws cs ≡ runningBack c v
+run-is-told r c run ws cs v tells runs = ap (λ x. runTold x ws cs) tells ∙ ap (runningBack c) runs
 
 pub replay-at : (run run′ : Run) → run ≡ run′ → (ws cs bytes : List ℕ) → replayed (runningOf run ws cs) bytes ≡ replayed (runningOf run′ ws cs) bytes
 replay-at run run′ same ws cs bytes = ap (λ x. replayed (runningOf x ws cs) bytes) same
@@ -93,8 +95,7 @@ replay-at run run′ same ws cs bytes = ap (λ x. replayed (runningOf x ws cs) b
 pub written-is-told : (n : ℕ) (w : Written) (bytes : List ℕ) (t : ShownWrite) → n ≡ writtenNumber w → shownWrite w bytes ≡ t → writeNumber n bytes ≡ t
 written-is-told n w bytes t tells writes = ap (λ x. writeNumber x bytes) tells ∙ writes
 
-pub write-at : (bytes : List ℕ) (at : ℕ) (q : Request) (d e : Decoded) → d ≡ e → d ≡ Asks q → requestWritten bytes at q ≡ writtenBy bytes at e
-write-at bytes at q d e reads asks = ap (writtenBy bytes at) (sym asks ∙ reads)
-
-pub none-written : (bytes : List ℕ) (at : ℕ) (d e : Decoded) → d ≡ e → d ≡ Bad → writeNumber 10 bytes ≡ writtenBy bytes at e
-none-written bytes at d e reads bad = ap (writtenBy bytes at) (sym bad ∙ reads)
+-- a kind beyond the table
+pub none-written : (bytes : List ℕ) (at : ℕ) (q : CRequest) → 9 < q .kind → writeNumber 10 bytes ≡ writtenBy bytes at q
+unfolding choose recordWritten writeTests
+none-written bytes at q beyond = rw (sym (kind-beyond (recordSpelt q) beyond)) (sym (chosen-either (tooShort bytes at) (writeNumber 10 bytes)))

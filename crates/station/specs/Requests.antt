@@ -1,15 +1,20 @@
 -- A request as numbers: document 01's kind, with a flag beside each number that may be missing. What a kind does not use is not looked at.
 --     requestFrom q    the request that the numbers say; none where the kind is none of the nine
 --     requestTo r      the numbers of a record, each flag by itself
--- One statement, RequestKept: the numbers of a request's record say that request.
+--     recordSpelt q    the record that the numbers spell: each in the field of its name, whatever the kind uses, and the flags by whether each is given
+-- Statements: RequestKept, the numbers of a request's record say that request; SpeltSaid, where the record spelt keeps the rules of its kind, it is the
+-- record of the request that the numbers say; SpeltAgain, the numbers of a record that keeps them spell that record.
 use mathlib.Core.Path.{_≡_}
-use Prim.Native.Nat.{_/_, _%_}
+use mathlib.Core.Bool.{true}
+use Prim.Native.Nat.{_+_, _/_, _%_}
 use lib.Dec.{eqb}
 use Rattle.choice.specs.Choose.{choose}
 use Rattle.given.specs.declared.Given.{Given}
 use Rattle.given.specs.Given.{givenIf}
 use Rattle.regs.specs.Convert.{truthOf}
 use Rattle.record.specs.declared.Record.{Record}
+use Rattle.record.specs.Form.{recordWith}
+use Rattle.record.specs.Kinds.{lawfulRecord}
 use Rattle.rules.specs.declared.PushArgs.{PushArgs}
 use Rattle.rules.specs.declared.ReplaceArgs.{ReplaceArgs}
 use Rattle.rules.specs.declared.HostArgs.{HostArgs}
@@ -18,7 +23,7 @@ use Rattle.rules.specs.declared.Request.{Request}
 use Rattle.rules.specs.declared.Request.the-variants.{Push, Pop, Replace, Host, ReturnHost, Sync, Restore, Reset, Set}
 use Rattle.request.specs.declared.Decoded.{Decoded}
 use Rattle.request.specs.declared.Decoded.the-variants.{Asks, Bad}
-use Rattle.request.specs.Requests.{recordFor}
+use Rattle.request.specs.Requests.{flagBit, recordFor, requestIn}
 use Rattle.station.specs.declared.requests.CRequest.{CRequest}
 
 abbrev pub callerFrom : CRequest → Given
@@ -82,5 +87,19 @@ requestTo r = record {
   instance = r .word3;
 }
 
+-- 1 where a caller ip is given, 2 where an instance is
+abbrev pub recordSpelt : CRequest → Record
+recordSpelt q =
+    recordWith (q .kind) (flagBit (callerFrom q) 1 + flagBit (instanceFrom q) 2) (q .head) (q .params) (q .locals) (q .slots) (q .results)
+    (q .caller) (q .callee) (q .instance)
+
 abbrev pub RequestKept : Type 0
 RequestKept = (q : Request) → requestFrom (requestTo (recordFor q)) ≡ Asks q
+
+abbrev pub SpeltSaid : Type 0
+SpeltSaid =
+    (q : CRequest) → lawfulRecord (recordSpelt q) ≡ true
+    → (requestFrom q ≡ Asks (requestIn (recordSpelt q))) × (recordFor (requestIn (recordSpelt q)) ≡ recordSpelt q)
+
+abbrev pub SpeltAgain : Type 0
+SpeltAgain = (r : Record) → lawfulRecord r ≡ true → recordSpelt (requestTo r) ≡ r

@@ -1,29 +1,41 @@
 -- A replay in its course as numbers.
---     runFrom c, runTo r               the run that the numbers say, and the numbers of a run
+--     runFrom c                        the run that the numbers say
+--     runBack c r                      the numbers of a run handed back for those that came: what has not changed comes back as it came
 --     RunTold, runTold r ws cs         a run with what both buffers hold: what a function promises
---     runningTold v                    that of a replay in its course
--- One statement, RunKept: a run handed out and in again is that run.
+--     runningBack c v                  that of a replay in its course
+--     runningFrom c ws cs              the replay in its course that the numbers say
+--     acceptedAt v d, anyAccepted v ds   the record is run and answered with 0 or 1; so one of some records
+-- Statements: RunSaid, what is handed back says the run; RunBack, a run that has not changed comes back number for number; StoppedAsItCame, so one that had
+-- stopped, with both buffers; StateAsItCame, so the state, with both buffers, where no record was accepted.
 use mathlib.Core.Path.{_≡_}
-use mathlib.Core.List.{List}
+use mathlib.Core.Bool.{Bool, true, false, not, _&&_, _||_}
+use mathlib.Core.List.{List, [], _∷_}
 use Prim.Native.Nat.{ℕ}
-use Rattle.given.specs.Given.{isGiven, givenNumber, givenIf}
-use Rattle.regs.specs.Convert.{truthBit, truthOf}
+use lib.Dec.{ltb}
+use Rattle.given.specs.Given.{isGiven, givenIf}
+use Rattle.regs.specs.Convert.{truthOf}
+use Rattle.request.specs.declared.Decoded.{Decoded}
+use Rattle.request.specs.Entries.{entriesIn}
 use Rattle.replay.specs.declared.run.Run.{Run}
-use Rattle.replay.specs.Running.{Running, runWith, runOf}
+use Rattle.replay.specs.Running.{Running, runWith, runOf, runningOf, ran, replayed}
+use Rattle.station.specs.declared.state.Flagged.{Flagged}
 use Rattle.station.specs.declared.traces.CRun.{CRun}
-use Rattle.station.specs.States.{stateFrom, stateTo}
+use Rattle.station.specs.States.{stateFrom, flaggedBy, flaggedBack, stateBack}
 
 abbrev pub runFrom : CRun → Run
 runFrom c = runWith (stateFrom (c .state)) (c .number) (c .fuel) (c .spent) (givenIf (truthOf (c .stopflag)) (c .cost))
 
-abbrev pub runTo : Run → CRun
-runTo r = record {
-  state = stateTo (r .state);
+abbrev pub stopIn : CRun → Flagged
+stopIn c = flaggedBy (c .stopflag) (c .cost)
+
+abbrev pub runBack : CRun → Run → CRun
+runBack c r = record {
+  state = stateBack (c .state) (r .state);
   number = r .number;
   fuel = r .fuel;
   spent = r .spent;
-  stopflag = truthBit (isGiven (r .stop));
-  cost = givenNumber (r .stop);
+  stopflag = flaggedBack (stopIn c) (r .stop) .flag;
+  cost = flaggedBack (stopIn c) (r .stop) .number;
 }
 
 pub record RunTold : Type 0 where
@@ -34,8 +46,35 @@ pub record RunTold : Type 0 where
 abbrev pub runTold : CRun → (words cells : List ℕ) → RunTold
 runTold r words cells = record { run = r; words = words; cells = cells }
 
-abbrev pub runningTold : Running → RunTold
-runningTold v = runTold (runTo (runOf v)) (v .world .words) (v .world .cells)
+abbrev pub runningBack : CRun → Running → RunTold
+runningBack c v = runTold (runBack c (runOf v)) (v .world .words) (v .world .cells)
 
-abbrev pub RunKept : Type 0
-RunKept = (r : Run) → runFrom (runTo r) ≡ r
+abbrev pub runningFrom : CRun → (words cells : List ℕ) → Running
+runningFrom c words cells = runningOf (runFrom c) words cells
+
+abbrev pub RunSaid : Type 0
+RunSaid = (c : CRun) (r : Run) → runFrom (runBack c r) ≡ r
+
+abbrev pub RunBack : Type 0
+RunBack = (c : CRun) → runBack c (runFrom c) ≡ c
+
+abbrev pub StoppedAsItCame : Type 0
+StoppedAsItCame =
+    (c : CRun) (words cells bytes : List ℕ) → truthOf (c .stopflag) ≡ true
+    → runningBack c (replayed (runningFrom c words cells) bytes) ≡ runTold c words cells
+
+-- ---- where no record was accepted
+
+abbrev pub acceptedAt : Running → Decoded → Bool
+acceptedAt v d = not (isGiven (ran v d .run .stop)) && ltb (ran v d .answer) 2
+
+unfoldable pub anyAccepted : Running → List Decoded → Bool
+anyAccepted v [] = false
+anyAccepted v (d ∷ ds) = acceptedAt v d || anyAccepted (ran v d .run) ds
+
+abbrev pub StateAsItCame : Type 0
+StateAsItCame =
+    (c : CRun) (words cells bytes : List ℕ) → anyAccepted (runningFrom c words cells) (entriesIn bytes) ≡ false
+    → (runningBack c (replayed (runningFrom c words cells) bytes) .run .state ≡ c .state)
+    × ((runningBack c (replayed (runningFrom c words cells) bytes) .words ≡ words)
+    × (runningBack c (replayed (runningFrom c words cells) bytes) .cells ≡ cells))

@@ -1,6 +1,10 @@
 // A request as numbers: its kind in document 01, with a flag beside each number that may be missing.
 ghost use mathlib.Core.Path.{_≡_};
-ghost use Rattle.station.specs.Requests.{requestFrom, pushFrom, replaceFrom, hostFrom, returnHostFrom, requestTo};
+ghost use Prim.Native.Nat.{_≤_, _<_};
+ghost use Rattle.given.specs.Given.{givenIf};
+ghost use Rattle.regs.specs.Convert.{truthOf};
+ghost use Rattle.request.specs.Requests.{flagBit};
+ghost use Rattle.station.specs.Requests.{requestFrom, pushFrom, replaceFrom, hostFrom, returnHostFrom, requestTo, recordSpelt};
 use given::given_if;
 use record::Record;
 use regs::to_bool;
@@ -28,9 +32,14 @@ const RESTORE: u64 = record::RESTORE as u64;
 
 const RESET: u64 = record::RESET as u64;
 
-const SET: u64 = record::SET as u64;
+pub(crate) const SET: u64 = record::SET as u64;
 
-// What the kind does not use is not looked at.
+// The flags of a record: a caller ip, an instance is given.
+const IP_GIVEN: u8 = 1;
+
+const INSTANCE_GIVEN: u8 = 2;
+
+// A request asks by what its kind uses, and spells a record with all that it has.
 #[repr(C)]
 pub struct CRequest {
     pub kind: u64,
@@ -132,4 +141,35 @@ pub(crate) fn request_to(r: Record) -> CRequest
         instanceflag: flags / 2 % 2,
         instance: r.word3,
     }
+}
+
+// The record that the numbers of one of the nine kinds spell: what the kind does not use is spelt too.
+pub(crate) fn record_spelt(q: CRequest) -> Record
+    requires { ⌜ q .kind < 256 ⌝ }
+    ensures { λ r. ⌜ r ≡ recordSpelt q ⌝ }
+{
+    Record {
+        kind: q.kind as u8,
+        flags: flag_spelt(q.callerflag, q.caller, IP_GIVEN)
+            + flag_spelt(q.instanceflag, q.instance, INSTANCE_GIVEN),
+        head: q.head,
+        params: q.params,
+        locals: q.locals,
+        slots: q.slots,
+        results: q.results,
+        word1: q.caller,
+        word2: q.callee,
+        word3: q.instance,
+    }
+}
+
+// What a flag of a struct counts for in the flags of a record.
+fn flag_spelt(flag: u64, number: u64, bit: u8) -> u8
+    ensures { λ r. ⌜ r ≡ flagBit (givenIf (truthOf flag) number) bit ⌝ }
+    ensures { λ r. ⌜ r ≤ bit ⌝ }
+{
+    if flag == 0 {
+        return 0;
+    }
+    bit
 }

@@ -1,30 +1,28 @@
 // Whole traces replayed, and single records read and written.
 ghost use mathlib.Core.Path.{_≡_};
 ghost use Rattle.record.specs.Reading.{readAt, writeNumber, writtenNumber};
-ghost use Rattle.replay.specs.Running.{runningOf, replayed};
-ghost use Rattle.station.specs.Requests.{requestFrom};
-ghost use Rattle.station.specs.Runs.{runFrom, runTo, runTold, runningTold};
+ghost use Rattle.replay.specs.Running.{replayed};
+ghost use Rattle.station.specs.Runs.{runFrom, runBack, runTold, runningBack, runningFrom};
 ghost use Rattle.station.specs.Records.{readTold, writtenBy};
 use crate::requests::CRequest;
-use crate::requests::request_from;
+use crate::requests::SET;
+use crate::requests::record_spelt;
 use crate::requests::request_to;
 use crate::state::CState;
+use crate::state::Flagged;
+use crate::state::flagged_back;
+use crate::state::state_back;
 use crate::state::state_from;
-use crate::state::state_to;
 use given::given_if;
-use given::given_number;
-use given::is_given;
 use record::BAD_RECORD;
 use record::Read;
 use record::Record;
 use record::Written;
 use record::read_record;
-use regs::from_bool;
+use record::write_record;
 use regs::to_bool;
 use replay::Run;
 use replay::replay;
-use request::Decoded;
-use request::write_request;
 
 // A replay in its course.
 #[repr(C)]
@@ -43,7 +41,7 @@ pub struct CRead {
     pub request: CRequest,
 }
 
-// Replays a whole trace, or up to where the fuel does not cover a record.
+// Replays a whole trace, or up to where the fuel does not cover a record. What it leaves as it was comes back number for number.
 #[no_mangle]
 pub extern "C" fn cattlecleat_replay(
     run: CRun,
@@ -52,9 +50,9 @@ pub extern "C" fn cattlecleat_replay(
     trace: &[u8],
 ) -> CRun
     ensures { λ r. ⌜ runTold r (now (words .exit)) (now (cells .exit))
-        ≡ runningTold (replayed (runningOf (runFrom run) (now (words .entry)) (now (cells .entry))) (now (trace .entry))) ⌝ }
+        ≡ runningBack run (replayed (runningFrom run (now (words .entry)) (now (cells .entry))) (now (trace .entry))) ⌝ }
 {
-    run_to(replay(run_from(run), words, cells, trace))
+    run_back(run, replay(run_from(run), words, cells, trace))
 }
 
 fn run_from(c: CRun) -> Run
@@ -70,18 +68,26 @@ fn run_from(c: CRun) -> Run
     }
 }
 
-fn run_to(run: Run) -> CRun
-    ensures { λ r. ⌜ r ≡ runTo run ⌝ }
+fn run_back(came: CRun, run: Run) -> CRun
+    ensures { λ r. ⌜ r ≡ runBack came run ⌝ }
 {
-    let stop = run.stop;
+    let held = came.state;
     let state = run.state;
+    let stop = run.stop;
+    let stopped = flagged_back(
+        Flagged {
+            flag: came.stopflag,
+            number: came.cost,
+        },
+        stop,
+    );
     CRun {
-        state: state_to(state),
+        state: state_back(held, state),
         number: run.number,
         fuel: run.fuel,
         spent: run.spent,
-        stopflag: from_bool(is_given(stop)),
-        cost: given_number(stop),
+        stopflag: stopped.flag,
+        cost: stopped.number,
     }
 }
 
@@ -115,15 +121,16 @@ const NO_RECORD: Record = Record {
     word3: 0,
 };
 
-// Writes a request's record at a place: 0. 10, with no byte changed, where the kind is none of the nine or fewer than 40 bytes are left.
+// Writes the record that the numbers spell at a place: 0. 10, with no byte changed, where it breaks the rules of its kind or fewer than 40 bytes are left.
 #[no_mangle]
 pub extern "C" fn cattlecleat_write_record(bytes: &mut [u8], at: usize, q: CRequest) -> u64
-    ensures { λ n. ⌜ writeNumber n (now (bytes .exit)) ≡ writtenBy (now (bytes .entry)) at (requestFrom q) ⌝ }
+    ensures { λ n. ⌜ writeNumber n (now (bytes .exit)) ≡ writtenBy (now (bytes .entry)) at q ⌝ }
 {
-    match request_from(q) {
-        Decoded::Asks(asked) => written_number(write_request(bytes, at, asked)),
-        Decoded::Bad => BAD_RECORD,
+    let kind = q.kind;
+    if SET < kind {
+        return BAD_RECORD;
     }
+    written_number(write_record(bytes, at, record_spelt(q)))
 }
 
 fn written_number(w: Written) -> u64

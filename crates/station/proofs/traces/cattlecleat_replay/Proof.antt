@@ -14,6 +14,7 @@ cattlecleat-replay-spec =
     (λ c κs. search needs)
     (λ c. search needs)
     (λ c. search needs)
-    (λ c. run-is-told _ (c .before .before .before .before .before .replay .result) _ _ _ (c .run-to .ensures)
+    (λ c. run-is-told _ (c .before .before .before .before .before .before .before .before .before .before .before .before .args .run)
+    (c .before .before .before .before .before .replay .result) _ _ _ (c .run-back .ensures)
     (c .before .before .before .before .before .replay .ensures
     ∙ replay-at _ _ (c .before .before .before .before .before .before .before .before .run-from .ensures) _ _ _)))

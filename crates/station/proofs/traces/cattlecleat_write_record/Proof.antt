@@ -1,7 +1,8 @@
--- `station::traces::cattlecleat_write_record` meets its contract. Assumes nothing.
+-- `station::traces::cattlecleat_write_record` meets its contract: a kind beyond the nine has no row in the table. Assumes nothing.
 use borrow.Author.Needs.{needs}
-use mathlib.Core.Path.{_∙_}
-use Rattle.station.proofs.Telling.{written-is-told, write-at, none-written}
+use mathlib.Core.Path.{ap, _∙_}
+use Rattle.record.specs.Reading.{recordWritten}
+use Rattle.station.proofs.Telling.{written-is-told, none-written}
 use Rattle.station.proofs.traces.cattlecleat_write_record.Statement.{statement}
 use Rattle.station.proofs.traces.cattlecleat_write_record.Tie as tie
 
@@ -9,14 +10,11 @@ pub cattlecleat-write-record-spec : {M : Type 1} → statement M
 cattlecleat-write-record-spec =
     tie.close
     (tie.spec
+    (λ c. none-written _ _ (c .before .before .args .q) (c .if1 .taken))
+    (λ c κs. search needs)
+    (λ c κs. search needs)
     (λ c κs. search needs)
     (λ c. search needs)
-    (λ c κs. search needs)
-    (λ c κs. search needs)
-    (λ c. search needs)
-    (λ c. search needs)
-    (λ c. written-is-told _ (c .before .before .before .write-request .result) _ _ (c .written-number .ensures)
-    (c .before .before .before .write-request .ensures
-    ∙ write-at _ _ _ _ _ (c .before .before .before .before .before .before .before .before .request-from .ensures)
-    (c .before .before .before .before .before .before .asked .given .1)))
-    (λ c. none-written _ _ _ _ (c .before .before .request-from .ensures) (c .enum-told .given .1)))
+    (λ c. written-is-told _ (c .before .before .before .write-record .result) _ _ (c .written-number .ensures)
+    (c .before .before .before .write-record .ensures
+    ∙ ap (recordWritten _ _) (c .before .before .before .before .record-spelt .ensures))))

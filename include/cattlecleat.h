@@ -12,8 +12,8 @@
  *
  * The state goes in by value and comes back with the answer. Frames lie in `words`, CATTLECLEAT_FRAME_WORDS words per frame, oldest first:
  * ip, start, debt flag (0 or 1) and debt instance. In a struct, a flag of 0 reads as none whatever the number beside it, any other as
- * given. A refusal hands state and slot back number for number as they came; else a flag that comes back is 0 or 1, and a 0 stands beside
- * a 0.
+ * given. A refusal hands state and slot back number for number as they came, and a replay hands back as it came whatever the trace left as
+ * it was; else a flag that comes back is 0 or 1, and a 0 stands beside a 0.
  *
  * Answer numbers. On 2 and above the state, the done slot and all buffers are unchanged, and every other number handed back is 0.
  *    0  done
@@ -27,7 +27,7 @@
  *    8  restore without current instance
  *    9  lent lengths differ from the state's, a limit is broken, CATTLECLEAT_FRAME_WORDS * D exceeds the frame words, count > D, `len` above
  *       L or M, or a frame read has start > `len`, a flag above 1, or flag 0 with a nonzero instance
- *   10  trace record that breaks the rules of its kind, or fewer than 40 bytes for it; a request of no kind
+ *   10  trace record, read or to be written, that breaks the rules of its kind, or fewer than 40 bytes for it; a request of no kind
  *   11  host frame with end above `len`, end below start, or end minus start not max(params, results)
  *   12  done slot already filled
  *   13  nothing to take
@@ -114,7 +114,7 @@ typedef struct cattlecleat_state {
     cattlecleat_registers regs;
 } cattlecleat_state;
 
-/* A request by its kind. What the kind does not use is not looked at. */
+/* A request by its kind. Asked for, what the kind does not use is not looked at; written as a record, it has to be 0. */
 typedef struct cattlecleat_request {
     uint64_t kind;          /* CATTLECLEAT_PUSH to CATTLECLEAT_SET */
     uint16_t head;          /* from the top start to the callee's cells, the parameters, or the cell to set */
@@ -226,14 +226,21 @@ cattlecleat_part cattlecleat_host_part(cattlecleat_state s, const uint64_t *word
 
 /* Replays the records of a trace one after another, and stops before a record whose cost exceeds the fuel left. Each record is answered as
  * by cattlecleat_ask, or with 10 where it breaks the rules; a tail of 1 to 39 bytes is such a record. It costs 1, plus cells zeroed or
- * copied if accepted. A run that has stopped comes back as it went in, its flags as 0 or 1. */
+ * copied if accepted. What the trace leaves as it was comes back number for number: the state where no record was accepted, the current
+ * instance with its flag where it is the same afterwards, the stop with its flag where the run had stopped or does not stop, and so a
+ * stopped run whole. A stop that is new, and a current instance that is another, have a flag of 1; none in place of one is 0 and 0. */
 cattlecleat_run cattlecleat_replay(cattlecleat_run run, uint64_t *words, size_t words_len, uint64_t *cells, size_t cells_len,
                                    const uint8_t *trace, size_t trace_len);
 
 /* The request of the record that begins at `at`, which may lie anywhere, beyond the end too. Answers 0; 10 with a request of zeros. */
 cattlecleat_read cattlecleat_read_record(const uint8_t *bytes, size_t bytes_len, size_t at);
 
-/* Writes the record of a request at `at`. Answers 0; 10 where the kind is none of the nine or fewer than 40 bytes are left. */
+/* Writes the record that the numbers spell at `at`: each in the field of its name, and a bit for each flag that is not 0. Answers 0; 10,
+ * with no byte changed, where that record breaks the rules of its kind or fewer than 40 bytes are left. It breaks them where
+ *   - the kind is none of the nine;
+ *   - a flag is given that the kind does not have: a caller ip's but for push and host, an instance's but for push, pop, replace and
+ *     return-host; or pop's or return-host's instance flag is not given;
+ *   - a number that the kind does not use is not 0, or one beside a flag of 0 that the kind has. A sync's ip has no flag. */
 uint64_t cattlecleat_write_record(uint8_t *bytes, size_t bytes_len, size_t at, cattlecleat_request q);
 
 /* The register of a number of a type: the number's bits, zero-extended; of a bool 0 or 1. Bits beyond the type are not looked at, so that a

@@ -158,6 +158,49 @@ static void check_refusals(void) {
     check_refusal(RESET, 9);
 }
 
+/* A struct that breaks the rules of its kind is not written: a flag that the kind lacks or does not have, a number that it does not use,
+ * one beside a clear flag. Any flag but 0 is given. */
+static void check_unlawful(void) {
+    const cattlecleat_request bad[] = {
+        {.kind = CATTLECLEAT_POP, .head = 5},
+        {.kind = CATTLECLEAT_POP, .instance = 2},
+        {.kind = CATTLECLEAT_POP, .head = 1, .instance_flag = 1},
+        {.kind = CATTLECLEAT_SYNC, .caller_flag = 1, .caller = 5},
+        {.kind = CATTLECLEAT_PUSH, .caller = 1},
+        {.kind = CATTLECLEAT_PUSH, .results = 1},
+        {.kind = CATTLECLEAT_REPLACE, .instance = 1},
+        {.kind = CATTLECLEAT_RESET, .instance_flag = 1},
+        {.kind = 256 + CATTLECLEAT_RESET},
+    };
+    uint8_t trace[CATTLECLEAT_RECORD_BYTES], before[sizeof trace];
+    memset(trace, 0xAB, sizeof trace);
+    memcpy(before, trace, sizeof trace);
+    for (size_t n = 0; n < sizeof bad / sizeof bad[0]; n++)
+        CHECK(cattlecleat_write_record(trace, sizeof trace, 0, bad[n]) == 10 && memcmp(trace, before, sizeof trace) == 0);
+    const cattlecleat_request pop = {.kind = CATTLECLEAT_POP, .instance_flag = 7, .instance = 2};
+    CHECK(cattlecleat_write_record(trace, sizeof trace, 0, pop) == 0);
+    CHECK(same_request(cattlecleat_read_record(trace, sizeof trace, 0).request, POP_2));
+}
+
+/* What a trace leaves as it was comes back number for number. */
+static void check_handed_back(void) {
+    uint8_t trace[2 * CATTLECLEAT_RECORD_BYTES] = {0};
+    open_world();
+    cattlecleat_run came = {.state = w.state, .fuel = 9, .cost = 5};
+    came.state.current_flag = 2;
+    came.state.current = 7;
+    CHECK(cattlecleat_write_record(trace, sizeof trace, CATTLECLEAT_RECORD_BYTES, P) == 0);
+    cattlecleat_run run = cattlecleat_replay(came, w.words, WORDS, w.cells, CELLS, trace, CATTLECLEAT_RECORD_BYTES);
+    CHECK(run.number == 1 && run.spent == 1 && run.stop_flag == 0 && run.cost == 5 && same_state(run.state, came.state));
+    run = cattlecleat_replay(came, w.words, WORDS, w.cells, CELLS, trace, 0);
+    CHECK(run.number == 0 && run.fuel == 9 && run.spent == 0 && run.cost == 5 && same_state(run.state, came.state));
+    run = cattlecleat_replay(came, w.words, WORDS, w.cells, CELLS, trace, sizeof trace);
+    CHECK(run.number == 2 && run.spent == 4 && run.state.current_flag == 1 && run.state.current == 1 && run.cost == 5);
+    came.stop_flag = 3;
+    run = cattlecleat_replay(came, w.words, WORDS, w.cells, CELLS, trace, sizeof trace);
+    CHECK(run.number == 0 && run.spent == 0 && run.stop_flag == 3 && run.cost == 5 && same_state(run.state, came.state));
+}
+
 static void check_records(void) {
     const cattlecleat_request requests[RECORDS] = {P, Q, POP_2, POP_2, POP_2};
     uint8_t trace[RECORDS * CATTLECLEAT_RECORD_BYTES], before[sizeof trace];
@@ -315,6 +358,8 @@ int main(void) {
     check_call_and_return();
     check_refusals();
     check_records();
+    check_unlawful();
+    check_handed_back();
     check_align();
     check_slot();
     check_conversions();

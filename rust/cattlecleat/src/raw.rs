@@ -7,7 +7,8 @@
 //! [`Stack`](crate::Stack) is the comfortable way; this is the way for a host that keeps the state itself, and for whoever compares every
 //! number.
 //!
-//! A flag of 0 reads as none whatever the number beside it, any other as given.
+//! A flag of 0 reads as none whatever the number beside it, any other as given. A refusal hands flags and numbers back as they came, and
+//! so does a replay what the trace left as it was; else a flag comes back as 0 or 1, with 0 beside 0.
 //! What changes registers in place are methods of [`Registers`].
 
 /// The three registers: an integer, an f32 and an f64, kept bit for bit.
@@ -69,7 +70,8 @@ pub struct State {
     pub regs: Registers,
 }
 
-/// One of the nine requests, by its kind in document 01; what the kind does not use is not looked at.
+/// One of the nine requests, by its kind in document 01. Asked for, what the kind does not use is not looked at; written as a record, it
+/// has to be 0.
 #[repr(C)]
 #[derive(Clone, Copy, Debug, Default, PartialEq, Eq)]
 pub struct Request {
@@ -240,7 +242,18 @@ pub fn host_part(s: State, words: &[u64], cells: &[u64], frame: HostFrame) -> Pa
     unsafe { cattlecleat_host_part(s, words.as_ptr(), words.len(), cells.as_ptr(), cells.len(), frame) }
 }
 
-/// Replays a whole trace, or up to where the fuel does not cover a record.
+/// Replays a whole trace, or up to where the fuel does not cover a record. What the trace leaves as it was comes back number for number:
+/// the state where no record was accepted, and a flag with the number beside it where they still say what is so.
+///
+/// ```
+/// use cattlecleat::raw::{self, Run};
+///
+/// let (mut words, mut cells) = ([0; 4], [0; 2]);
+/// let mut came = Run { state: raw::open(16, 1, &words, &cells).state, fuel: 9, cost: 5, ..Run::default() };
+/// (came.state.current_flag, came.state.current) = (2, 7);
+/// let run = raw::replay(came, &mut words, &mut cells, &[0; 40]);    // one record, a bad one
+/// assert_eq!(run, Run { number: 1, spent: 1, ..came });
+/// ```
 pub fn replay(run: Run, words: &mut [u64], cells: &mut [u64], trace: &[u8]) -> Run {
     unsafe {
         cattlecleat_replay(
@@ -260,7 +273,20 @@ pub fn read_record(bytes: &[u8], at: usize) -> Read {
     unsafe { cattlecleat_read_record(bytes.as_ptr(), bytes.len(), at) }
 }
 
-/// Writes a request's record at a place: 0, or 10 where the kind is none of the nine or fewer than 40 bytes are left; then no byte changes.
+/// Writes the record that the numbers spell at a place, what the kind does not use too: 0. 10, and no byte changes, where that record breaks
+/// the rules of its kind (a flag that the kind does not have or lacks, a number that it does not use or that stands beside a clear flag)
+/// or fewer than 40 bytes are left.
+///
+/// ```
+/// use cattlecleat::raw::{self, Request};
+///
+/// let mut bytes = [0; 40];
+/// let pop = Request { kind: 2, instance_flag: 1, instance: 7, ..Request::default() };
+/// assert_eq!(raw::write_record(&mut bytes, 0, pop), 0);
+/// assert_eq!(raw::read_record(&bytes, 0).request, pop);
+/// assert_eq!(raw::write_record(&mut bytes, 0, Request { head: 5, ..pop }), 10);
+/// assert_eq!(raw::write_record(&mut bytes, 0, Request { instance_flag: 0, ..pop }), 10);
+/// ```
 pub fn write_record(bytes: &mut [u8], at: usize, q: Request) -> u64 {
     unsafe { cattlecleat_write_record(bytes.as_mut_ptr(), bytes.len(), at, q) }
 }

@@ -13,7 +13,8 @@ pub fn read_record(bytes: &[u8], at: usize) -> Result<Request, Refusal> {
     Request::try_from(read.request)
 }
 
-/// Writes a request's record at a place. [`Refusal::BadRecord`] where fewer than 40 bytes are left; then no byte changes.
+/// Writes a request's record at a place, which always keeps the rules of its kind. [`Refusal::BadRecord`] where fewer than 40 bytes are
+/// left; then no byte changes.
 ///
 /// ```
 /// use cattlecleat::{Refusal, Request, read_record, write_record};

@@ -151,6 +151,53 @@ fn a_walk_goes_on_after_a_bad_record_and_ends_with_a_short_one() {
     assert_eq!((trace.next(), trace.len(), trace.position()), (None, 0, 122));
 }
 
+/// Each record as a struct, with each number changed in turn: written exactly where the record that it then spells reads well.
+#[test]
+fn a_struct_that_breaks_the_rules_is_not_written() {
+    for (request, ..) in SPELLED {
+        let good = raw::Request::from(request);
+        for q in changed(good) {
+            let mut bytes = [MARKED; RECORD_BYTES];
+            let flags = u8::from(q.caller_flag != 0) + 2 * u8::from(q.instance_flag != 0);
+            let counts = [q.head, q.params, q.locals, q.slots, q.results];
+            let record = spelled([q.kind as u8, flags], counts, [q.caller, q.callee, q.instance]);
+            let reads = read_record(&record, 0).is_ok();
+            assert_eq!(raw::write_record(&mut bytes, 0, q), if reads { 0 } else { 10 }, "{q:?}");
+            assert_eq!(bytes[..], if reads { record } else { vec![MARKED; RECORD_BYTES] }, "{q:?}");
+        }
+    }
+}
+
+/// The struct, and it with one number changed: a count or word by one bit, a flag to 0 and to 2.
+fn changed(q: raw::Request) -> [raw::Request; 13] {
+    let flags = |caller_flag, instance_flag| raw::Request {
+        caller_flag,
+        instance_flag,
+        ..q
+    };
+    [
+        q,
+        flags(0, q.instance_flag),
+        flags(2, q.instance_flag),
+        flags(q.caller_flag, 0),
+        flags(q.caller_flag, 2),
+        raw::Request { head: q.head ^ 1, ..q },
+        raw::Request { params: q.params ^ 1, ..q },
+        raw::Request { locals: q.locals ^ 1, ..q },
+        raw::Request { slots: q.slots ^ 1, ..q },
+        raw::Request {
+            results: q.results ^ 1,
+            ..q
+        },
+        raw::Request { caller: q.caller ^ 1, ..q },
+        raw::Request { callee: q.callee ^ 1, ..q },
+        raw::Request {
+            instance: q.instance ^ 1,
+            ..q
+        },
+    ]
+}
+
 #[test]
 fn a_request_of_no_kind_is_refused() {
     let mut stack = after(&[Request::Push(P)]);

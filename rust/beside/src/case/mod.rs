@@ -5,7 +5,7 @@ mod rows;
 
 pub use self::rows::{Row, parse, text};
 
-use crate::plain::{HostFrame, Regs, Replay, Request, State};
+use crate::plain::{HostFrame, Regs, Replay, Request, State, Straight};
 use crate::rng::mix;
 
 /// How many words a frame takes, as the openings count them.
@@ -29,8 +29,8 @@ pub enum Step {
 pub enum Task {
     /// Reads the record at a place.
     Read(u64),
-    /// Writes a request's record at a place.
-    Write(u64, Request),
+    /// Writes the record that a struct spells at a place.
+    Write(u64, Straight),
     /// Replays the whole trace on the stack.
     Replay(Replay),
 }

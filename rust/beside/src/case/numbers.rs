@@ -1,7 +1,7 @@
 //! What a case is made of as lists of numbers, and back. An optional number is a flag and a number.
 
 use super::Opening;
-use crate::plain::{HostFrame, Regs, Replay, Request, State};
+use crate::plain::{HostFrame, Regs, Replay, Request, State, Straight, anew, said};
 
 pub const OPEN: [&str; 5] = ["bytes", "depth", "words", "cells", "fill"];
 pub const STATE: [&str; 11] = [
@@ -53,14 +53,6 @@ pub trait Numbers: Sized {
     fn of(numbers: &[u64]) -> Option<Self>;
 }
 
-fn flagged(given: Option<u64>) -> [u64; 2] {
-    [u64::from(given.is_some()), given.unwrap_or(0)]
-}
-
-fn given(flag: u64, number: u64) -> Option<u64> {
-    (flag != 0).then_some(number)
-}
-
 /// A list of just so many numbers.
 fn exactly<const N: usize>(numbers: &[u64]) -> Option<[u64; N]> {
     numbers.try_into().ok()
@@ -101,7 +93,7 @@ impl Numbers for Regs {
 impl Numbers for State {
     fn numbers(&self) -> Vec<u64> {
         let sizes = [self.depth, self.height, self.words, self.cells, self.count, self.len];
-        [&sizes[..], &flagged(self.current), &self.regs.numbers()].concat()
+        [&sizes[..], &anew(self.current), &self.regs.numbers()].concat()
     }
 
     fn of(numbers: &[u64]) -> Option<Self> {
@@ -113,7 +105,7 @@ impl Numbers for State {
             cells,
             count,
             len,
-            current: given(flag, current),
+            current: said([flag, current]),
             regs: Regs::of(&regs)?,
         })
     }
@@ -149,7 +141,7 @@ impl Numbers for (HostFrame, Option<(u64, u64)>) {
 
 impl Numbers for Replay {
     fn numbers(&self) -> Vec<u64> {
-        [&[self.number, self.fuel, self.spent][..], &flagged(self.stopped)].concat()
+        [&[self.number, self.fuel, self.spent][..], &anew(self.stopped)].concat()
     }
 
     fn of(numbers: &[u64]) -> Option<Self> {
@@ -158,23 +150,39 @@ impl Numbers for Replay {
             number,
             fuel,
             spent,
-            stopped: given(flag, cost),
+            stopped: said([flag, cost]),
+        })
+    }
+}
+
+/// What is given has the flag 1.
+impl Numbers for Request {
+    fn numbers(&self) -> Vec<u64> {
+        Straight::of(self).numbers()
+    }
+
+    fn of(numbers: &[u64]) -> Option<Self> {
+        let q = <Straight as Numbers>::of(numbers)?;
+        Some(Self {
+            kind: q.kind,
+            head: q.head,
+            params: q.params,
+            locals: q.locals,
+            slots: q.slots,
+            results: q.results,
+            caller: said([q.caller_flag, q.caller]),
+            callee: q.callee,
+            instance: said([q.instance_flag, q.instance]),
         })
     }
 }
 
 /// The kind first.
-impl Numbers for Request {
+impl Numbers for Straight {
     fn numbers(&self) -> Vec<u64> {
         let counts = [self.head, self.params, self.locals, self.slots, self.results].map(u64::from);
-        [
-            &[self.kind][..],
-            &counts,
-            &flagged(self.caller),
-            &[self.callee],
-            &flagged(self.instance),
-        ]
-        .concat()
+        let words = [self.caller_flag, self.caller, self.callee, self.instance_flag, self.instance];
+        [&[self.kind][..], &counts, &words].concat()
     }
 
     fn of(numbers: &[u64]) -> Option<Self> {
@@ -198,9 +206,11 @@ impl Numbers for Request {
             locals: locals.try_into().ok()?,
             slots: slots.try_into().ok()?,
             results: results.try_into().ok()?,
-            caller: given(caller_flag, caller),
+            caller_flag,
+            caller,
             callee,
-            instance: given(instance_flag, instance),
+            instance_flag,
+            instance,
         })
     }
 }

@@ -142,7 +142,7 @@ fn step_row(step: &Step) -> Row {
 fn task_row(task: &Task, bytes: &[u8]) -> Row {
     let (word, mut numbers) = match task {
         Task::Read(at) => ("read", vec![*at]),
-        Task::Write(at, request) => ("write", [vec![*at], request.numbers()].concat()),
+        Task::Write(at, spelt) => ("write", [vec![*at], spelt.numbers()].concat()),
         Task::Replay(run) => ("replay", run.numbers()),
     };
     numbers.extend(bytes.iter().map(|byte| u64::from(*byte)));
@@ -204,7 +204,7 @@ restore
 words 1 2*3
 cells 1 2
 read at 1 8 0
-write at 0 kind 11 head 1 params 2 locals 3 slots 4 results 5 caller-flag 1 caller 6 callee 7 instance-flag 0 instance 0 255
+write at 0 kind 11 head 1 params 2 locals 3 slots 4 results 5 caller-flag 9 caller 6 callee 7 instance-flag 0 instance 8 255
 replay number 1 fuel 2 spent 3 stop-flag 0 cost 0 8 0*2
 ";
 

@@ -2,7 +2,7 @@
 
 use super::{Failure, Tally, openings, run, steps};
 use crate::case::{Case, Start, Step, Task};
-use crate::plain::{Replay, Request};
+use crate::plain::{Replay, Request, Straight};
 use crate::reading::{RECORD_BYTES, Reading, write_record};
 use crate::rng::Rng;
 
@@ -22,11 +22,8 @@ fn any(rng: &mut Rng) -> Case {
     stack.state.depth += u64::from(rng.once_in(32));
     let trace = trace(rng, stack.clone());
     let at = place(rng, trace.len() as u64);
-    let request = Request {
-        kind: rng.below(11),
-        ..any_request(rng, &stack)
-    };
-    let tasks = [Task::Read(at), Task::Write(at, request), Task::Replay(start_of_run(rng))];
+    let spelt = any_straight(rng, &stack);
+    let tasks = [Task::Read(at), Task::Write(at, spelt), Task::Replay(start_of_run(rng))];
     let steps = tasks.map(|task| Step::Trace(task, trace.clone())).to_vec();
     Case {
         start: Start::Given {
@@ -71,6 +68,28 @@ fn spoil(rng: &mut Rng, trace: &mut Vec<u8>) {
 fn any_request(rng: &mut Rng, stack: &Reading) -> Request {
     let kind = rng.pick(&[1, 1, 1, 2, 3, 3, 4, 5, 6, 7, 8, 9, 9]);
     steps::request(rng, kind, stack)
+}
+
+/// The numbers of a record, whose flags may be above 1; of half of them one number is another.
+fn any_straight(rng: &mut Rng, stack: &Reading) -> Straight {
+    let mut q = Straight::as_read(&any_request(rng, stack));
+    (q.caller_flag, q.instance_flag) = (q.caller_flag * rng.range(1, 9), q.instance_flag * rng.range(1, 9));
+    let (small, any) = (rng.below(3), rng.next());
+    match rng.below(22) {
+        0 => q.kind = rng.below(11),
+        1 => q.kind = any,
+        2 => q.head = small as u16,
+        3 => q.params = small as u16,
+        4 => q.locals = small as u16,
+        5 => q.slots = small as u16,
+        6 => q.results = small as u16,
+        7 => q.caller_flag = small,
+        8 => q.caller = small,
+        9 => q.instance_flag = small,
+        10 => (q.callee, q.instance) = (small, any & 1),
+        _ => {}
+    }
+    q
 }
 
 /// A record's place, one beside it, just too near the end, or beyond it.

@@ -3,7 +3,7 @@
 use super::count::Compared;
 use super::seat::Seat;
 use crate::case::{Start, Step, Task};
-use crate::plain::{KINDS, Request, State};
+use crate::plain::{KINDS, Request, State, Straight};
 use crate::reading::{RECORD_BYTES, read_record, write_record};
 use cattlecleat::raw;
 
@@ -24,7 +24,8 @@ pub fn compared() -> Compared {
     let lawful: Vec<Record> = requests().iter().map(record).collect();
     lawful.iter().try_for_each(|record| around(&mut seat, record))?;
     bases(&lawful).into_iter().try_for_each(|base| pairs(&mut seat, base))?;
-    writes(&mut seat)?;
+    writes(&mut seat, &lawful)?;
+    spellings(&mut seat)?;
     Ok(seat.count.compared)
 }
 
@@ -135,10 +136,12 @@ fn pairs(seat: &mut Seat, mut base: Record) -> Result<(), String> {
     Ok(())
 }
 
-/// Requests of the nine kinds and of none, into buffers of every length up to two records, at every place and beyond.
-fn writes(seat: &mut Seat) -> Result<(), String> {
-    let none = NO_KINDS.map(|kind| Request { kind, ..requests()[3] });
-    let all = [requests(), none.to_vec()].concat();
+/// Structs that spell these records, and some of no kind, into buffers of every length up to two records, at every place and beyond.
+fn writes(seat: &mut Seat, lawful: &[Record]) -> Result<(), String> {
+    let of_record = |record: &Record| read_record(record, 0).map(|q| Straight::as_read(&q));
+    let spelt: Vec<Straight> = lawful.iter().filter_map(of_record).collect();
+    let none = NO_KINDS.map(|kind| Straight { kind, ..spelt[3] });
+    let all = [spelt, none.to_vec()].concat();
     let lengths = [
         0,
         1,
@@ -148,11 +151,48 @@ fn writes(seat: &mut Seat) -> Result<(), String> {
         2 * RECORD_BYTES,
         2 * RECORD_BYTES + 1,
     ];
-    for (request, length) in all.iter().flat_map(|request| lengths.map(|length| (request, length))) {
+    for (spelt, length) in all.iter().flat_map(|spelt| lengths.map(|length| (spelt, length))) {
         let last = u64::MAX - RECORD_BYTES as u64..=u64::MAX;
         for at in (0..=length as u64 + 1).chain(last) {
-            seat.glance(&Step::Trace(Task::Write(at, *request), vec![0xa5; length]))?;
+            seat.glance(&Step::Trace(Task::Write(at, *spelt), vec![0xa5; length]))?;
         }
     }
     Ok(())
+}
+
+/// Flags of a struct: none, and given in several ways, one of which has no bit among the lowest.
+const FLAGS: [u64; 5] = [0, 1, 2, 1 << 32, u64::MAX];
+
+/// Every kind, and some that are none, with every flag, and each choice of which of the five counts and three words are not 0.
+fn spellings(seat: &mut Seat) -> Result<(), String> {
+    for kind in (1..=KINDS.len() as u64).chain(NO_KINDS) {
+        for (caller_flag, instance_flag) in FLAGS.into_iter().flat_map(|caller| FLAGS.map(|instance| (caller, instance))) {
+            for choice in 0..=u8::MAX {
+                let q = Straight {
+                    kind,
+                    caller_flag,
+                    instance_flag,
+                    ..chosen(choice)
+                };
+                seat.glance(&Step::Trace(Task::Write(0, q), vec![0xa5; RECORD_BYTES]))?;
+            }
+        }
+    }
+    Ok(())
+}
+
+/// A bit for each count and word that is not 0.
+fn chosen(choice: u8) -> Straight {
+    let bit = |i: u32| u16::from(choice >> i & 1);
+    Straight {
+        head: bit(0),
+        params: bit(1) << 8,
+        locals: bit(2),
+        slots: bit(3) << 15,
+        results: bit(4),
+        caller: u64::from(bit(5)) << 63,
+        callee: bit(6).into(),
+        instance: u64::from(bit(7)) << 32,
+        ..Straight::default()
+    }
 }

@@ -11,8 +11,8 @@ mod simple;
 mod tests;
 
 pub use self::{
-    records::{RECORD_BYTES, read_record, write_record},
-    replay::replay,
+    records::{RECORD_BYTES, read_record, write_record, write_straight},
+    replay::{handed_back, replay},
 };
 
 use crate::plain::{Answer, Regs, Request, State};

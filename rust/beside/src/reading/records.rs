@@ -1,6 +1,6 @@
 //! Records of 40 bytes: read and written by document 01's table.
 
-use crate::plain::Request;
+use crate::plain::{Request, Straight};
 
 pub const RECORD_BYTES: usize = 40;
 
@@ -103,17 +103,40 @@ pub fn read_record(bytes: &[u8], at: u64) -> Option<Request> {
     })
 }
 
-/// Writes a request's record at a place: 0, or 10 and no byte changes.
+/// Writes a request's record at a place, with 0 in all that its kind does not use: 0, or 10 and no byte changes.
 pub fn write_record(bytes: &mut [u8], at: u64, q: &Request) -> u64 {
+    put(bytes, at, rule(q.kind).map(|rule| record_of(rule, q)))
+}
+
+/// Writes the record that a struct spells, whatever its kind uses: 0; or 10, and no byte changes, where that record reads badly.
+pub fn write_straight(bytes: &mut [u8], at: u64, q: &Straight) -> u64 {
+    put(bytes, at, spelt(q).filter(|record| read_record(record, 0).is_some()))
+}
+
+fn put(bytes: &mut [u8], at: u64, record: Option<[u8; RECORD_BYTES]>) -> u64 {
     let room = usize::try_from(at)
         .ok()
         .and_then(|at| bytes.get_mut(at..))
         .and_then(|rest| rest.get_mut(..RECORD_BYTES));
-    let (Some(rule), Some(room)) = (rule(q.kind), room) else {
+    let (Some(record), Some(room)) = (record, room) else {
         return 10;
     };
-    room.copy_from_slice(&record_of(rule, q));
+    room.copy_from_slice(&record);
     0
+}
+
+/// Each number in its field, and a bit for each flag that is not 0. A kind that has no byte spells nothing.
+fn spelt(q: &Straight) -> Option<[u8; RECORD_BYTES]> {
+    let mut record = [0; RECORD_BYTES];
+    record[0] = u8::try_from(q.kind).ok()?;
+    record[1] = u8::from(q.caller_flag != 0) + 2 * u8::from(q.instance_flag != 0);
+    for (i, count) in [q.head, q.params, q.locals, q.slots, q.results].iter().enumerate() {
+        record[2 + 2 * i..4 + 2 * i].copy_from_slice(&count.to_le_bytes());
+    }
+    for (i, word) in [q.caller, q.callee, q.instance].iter().enumerate() {
+        record[16 + 8 * i..24 + 8 * i].copy_from_slice(&word.to_le_bytes());
+    }
+    Some(record)
 }
 
 fn record_of(rule: &Rule, q: &Request) -> [u8; RECORD_BYTES] {

@@ -1,7 +1,7 @@
 //! Replay: records one after another, each with its answer and its cost, as far as the fuel goes.
 
 use super::{RECORD_BYTES, Reading, read_record};
-use crate::plain::{Answer, Replay, Request};
+use crate::plain::{Answer, Flagged, Replay, Request, anew, said};
 
 /// Replays a whole trace, or up to where the fuel does not cover a record; `line` gets the answer of each one replayed.
 pub fn replay(stack: &mut Reading, mut run: Replay, trace: &[u8], mut line: impl FnMut(&Answer, &Reading)) -> Replay {
@@ -26,6 +26,11 @@ pub fn replay(stack: &mut Reading, mut run: Replay, trace: &[u8], mut line: impl
         };
     }
     run
+}
+
+/// How a flag and the number beside it come back from a replay: as they came where they still say what is so, else anew.
+pub fn handed_back(came: Flagged, after: Option<u64>) -> Flagged {
+    if said(came) == after { came } else { anew(after) }
 }
 
 /// What a record of 40 bytes, or a short last one, gives and costs.

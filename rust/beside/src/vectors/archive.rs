@@ -2,9 +2,8 @@
 
 use super::call::Call;
 use super::desk::Desk;
-use super::straight::Straight;
-use crate::party::convert::{raw_host, raw_regs, raw_state};
-use crate::plain::{HostFrame, Regs, Replay};
+use crate::party::convert::{raw_host, raw_regs, raw_state, raw_straight};
+use crate::plain::{Flagged, HostFrame, Regs, Replay, Straight};
 use crate::reading::RECORD_BYTES;
 use cattlecleat::raw;
 use std::ops::Range;
@@ -22,7 +21,7 @@ struct Archive {
 /// What the archive finds otherwise, called on a desk as it was before: the answer, and the desk after it.
 pub fn difference(call: &Call, before: Desk, answer: &[u64], after: &Desk) -> Option<String> {
     let mut archive = Archive {
-        state: raw_state(&before.world.state, QUIET),
+        state: told_state(&before),
         words: before.world.words,
         cells: before.world.cells,
         trace: before.trace,
@@ -34,9 +33,19 @@ pub fn difference(call: &Call, before: Desk, answer: &[u64], after: &Desk) -> Op
     archive.differs(after)
 }
 
+/// The state as its lines tell it: with any flag.
+fn told_state(desk: &Desk) -> raw::State {
+    let [current_flag, current] = desk.current;
+    raw::State {
+        current_flag,
+        current,
+        ..raw_state(&desk.world.state, QUIET)
+    }
+}
+
 impl Archive {
     fn differs(&self, after: &Desk) -> Option<String> {
-        let wanted = raw_state(&after.world.state, QUIET);
+        let wanted = told_state(after);
         if self.state != wanted {
             return Some(format!("the archive's state is {:?}, not {wanted:?}", self.state));
         }
@@ -54,11 +63,11 @@ impl Archive {
         match call {
             Call::Open([bytes, depth, ..]) => self.open(*bytes as usize, *depth as usize),
             Call::Request(q) => self.request(q),
-            Call::Ask(q) => self.ask(raw_request(q)),
+            Call::Ask(q) => self.ask(raw_straight(q)),
             Call::Record(record) => self.record(record),
             Call::Registers(regs) => self.registers(regs),
             Call::Part(frame) => self.part(frame),
-            Call::Replay(run, bytes, times) => self.replay(run, bytes, *times),
+            Call::Replay(run, stop, bytes, times) => self.replay(run, *stop, bytes, *times),
             Call::Read(length, at) => self.read(*length, *at as usize),
             Call::Write(length, at, q) => self.write(*length, *at as usize, q),
             Call::Into(kind, number) => vec![raw::to_register(*kind, *number); 2],
@@ -89,7 +98,7 @@ impl Archive {
 
     fn request(&mut self, q: &Straight) -> Vec<u64> {
         let mut record = [0; RECORD_BYTES];
-        match raw::write_record(&mut record, 0, raw_request(q)) {
+        match raw::write_record(&mut record, 0, raw_straight(q)) {
             0 => self.record(&record),
             number => refused(number),
         }
@@ -113,14 +122,14 @@ impl Archive {
         vec![part.number, part.offset as u64, part.params as u64, part.results as u64]
     }
 
-    fn replay(&mut self, run: &Replay, bytes: &Range<usize>, times: u64) -> Vec<u64> {
+    fn replay(&mut self, run: &Replay, [stop_flag, cost]: Flagged, bytes: &Range<usize>, times: u64) -> Vec<u64> {
         let mut run = raw::Run {
             state: self.state,
             number: run.number,
             fuel: run.fuel,
             spent: run.spent,
-            stop_flag: run.stopped.is_some().into(),
-            cost: run.stopped.unwrap_or(0),
+            stop_flag,
+            cost,
         };
         for _ in 0..times {
             run = raw::replay(run, &mut self.words, &mut self.cells, &self.trace[bytes.clone()]);
@@ -137,26 +146,10 @@ impl Archive {
     }
 
     fn write(&mut self, length: usize, at: usize, q: &Straight) -> Vec<u64> {
-        let number = raw::write_record(&mut self.trace[..length], at, raw_request(q));
+        let number = raw::write_record(&mut self.trace[..length], at, raw_straight(q));
         let words = self.trace.chunks_exact(8).take(6);
         let words = words.map(|eight| eight.iter().fold(0, |word, byte| word << 8 | u64::from(*byte)));
         [number].into_iter().chain(words).collect()
-    }
-}
-
-fn raw_request(q: &Straight) -> raw::Request {
-    raw::Request {
-        kind: q.kind,
-        head: q.head,
-        params: q.params,
-        locals: q.locals,
-        slots: q.slots,
-        results: q.results,
-        caller_flag: q.caller_flag,
-        caller: q.caller,
-        callee: q.callee,
-        instance_flag: q.instance_flag,
-        instance: q.instance,
     }
 }
 

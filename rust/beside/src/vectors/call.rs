@@ -1,8 +1,7 @@
 //! What a line asks: its word, and what it gives.
 
-use super::straight::Straight;
 use super::text::{Token, numbers};
-use crate::plain::{HostFrame, Regs, Replay};
+use crate::plain::{Flagged, HostFrame, Regs, Replay, Straight};
 use crate::reading::RECORD_BYTES;
 use std::ops::Range;
 
@@ -19,8 +18,8 @@ pub enum Call {
     Record([u8; RECORD_BYTES]),
     Registers(Regs),
     Part(HostFrame),
-    /// A run, the bytes that are replayed, and how many times.
-    Replay(Replay, Range<usize>, u64),
+    /// A run, how its stop is told, the bytes that are replayed, and how many times.
+    Replay(Replay, Flagged, Range<usize>, u64),
     /// How many bytes there are, and where the record begins.
     Read(usize, u64),
     Write(usize, u64, Straight),
@@ -62,9 +61,9 @@ impl Call {
             Self::Record(record) => Token::bytes(record),
             Self::Registers(regs) => registers(regs),
             Self::Part(frame) => numbers(&host(frame)),
-            Self::Replay(run, bytes, times) => {
+            Self::Replay(run, stop, bytes, times) => {
                 let then = numbers(&[bytes.start as u64, bytes.end as u64, *times]);
-                [course(run), then].concat()
+                [course(run, *stop), then].concat()
             }
             Self::Read(length, at) => numbers(&[*length as u64, *at]),
             Self::Write(length, at, q) => [numbers(&[*length as u64, *at]), q.with_kind()].concat(),
@@ -85,8 +84,8 @@ pub fn host(frame: &HostFrame) -> [u64; 4] {
     [frame.start, frame.end, frame.params.into(), frame.results.into()]
 }
 
-/// A replay in its course.
-pub fn course(run: &Replay) -> Vec<Token> {
+/// A replay in its course, with its stop as it is told.
+pub fn course(run: &Replay, stop: Flagged) -> Vec<Token> {
     let counts = numbers(&[run.number, run.fuel, run.spent]);
-    [counts, vec![Token::optional(run.stopped)]].concat()
+    [counts, vec![Token::pair(stop)]].concat()
 }

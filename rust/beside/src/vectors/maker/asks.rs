@@ -2,11 +2,11 @@
 
 use super::lays::plain_floats;
 use super::told::answer_tokens;
-use super::{Made, Maker, Straight};
+use super::{Made, Maker};
 use crate::case::Opening;
 use crate::party::Rust;
-use crate::plain::{Answer, HostFrame, KINDS, Regs, Replay, Request, State};
-use crate::reading::{RECORD_BYTES, Reading, read_record, replay, write_record};
+use crate::plain::{Answer, Flagged, HostFrame, KINDS, Regs, Replay, Request, State, Straight, anew, said};
+use crate::reading::{RECORD_BYTES, Reading, handed_back, read_record, replay, write_record};
 use crate::vectors::buffers::{BUFFER_CELLS, BUFFER_WORDS, refill};
 use crate::vectors::call::{Call, course};
 use crate::vectors::line::first;
@@ -25,6 +25,7 @@ impl Maker {
         }
         refill(&mut self.words, &mut self.cells);
         (self.lent, self.state) = ((words as usize, cells as usize), State::default());
+        self.current = anew(None);
         let before = self.world();
         let (number, after) = Reading::open(bytes, depth, before.words, before.cells);
         let opened = Rust::open(&Opening {
@@ -41,7 +42,8 @@ impl Maker {
         }
         self.ledger.add(&("opening", lines));
         self.rust = opened.ok();
-        self.tell(&Call::Open(opening), answer_tokens(&Answer::of(number)), after)?;
+        let current = anew(after.state.current);
+        self.tell(&Call::Open(opening), answer_tokens(&Answer::of(number)), after, current)?;
         Ok(number)
     }
 
@@ -53,7 +55,7 @@ impl Maker {
             return Err(format!("{q:?} is not what its record says"));
         }
         let (answer, world) = self.put_to_all(&Move::Ask(*q))?;
-        self.tell(&Call::Request(Straight::of(q)), answer_tokens(&answer), world)?;
+        self.tell_answered(&Call::Request(Straight::as_read(q)), &answer, world)?;
         Ok(answer)
     }
 
@@ -64,7 +66,7 @@ impl Maker {
         } else {
             (Answer::of(10), self.world())
         };
-        self.tell(&Call::Ask(*q), answer_tokens(&answer), world)?;
+        self.tell_answered(&Call::Ask(*q), &answer, world)?;
         Ok(answer)
     }
 
@@ -74,7 +76,7 @@ impl Maker {
             Some(q) => self.put_to_all(&Move::Ask(q))?,
             None => (Answer::of(10), self.world()),
         };
-        self.tell(&Call::Record(*record), answer_tokens(&answer), world)?;
+        self.tell_answered(&Call::Record(*record), &answer, world)?;
         Ok(answer)
     }
 
@@ -82,14 +84,14 @@ impl Maker {
     pub fn registers(&mut self, regs: Regs) -> Made<Answer> {
         plain_floats(&regs)?;
         let (answer, world) = self.put_to_all(&Move::Registers(regs))?;
-        self.tell(&Call::Registers(regs), answer_tokens(&answer), world)?;
+        self.tell_answered(&Call::Registers(regs), &answer, world)?;
         Ok(answer)
     }
 
     pub fn part(&mut self, frame: &HostFrame) -> Made<Answer> {
         let (answer, world) = self.put_to_all(&Move::Part(*frame))?;
         let told = numbers(&[answer.number, answer.offset, answer.part.0, answer.part.1]);
-        self.tell(&Call::Part(*frame), told, world)?;
+        self.tell(&Call::Part(*frame), told, world, self.current)?;
         Ok(answer)
     }
 
@@ -104,13 +106,24 @@ impl Maker {
 
     /// Bytes of the trace replayed, so many times one after another. The Rust takes no part until the next opening.
     pub fn replay(&mut self, run: Replay, bytes: Range<usize>, times: u64) -> Made<Replay> {
+        self.replay_told(run, anew(run.stopped), bytes, times).map(|(ran, _)| ran)
+    }
+
+    /// So with a stop that is told with any flag, and with any number beside a flag of 0; and how it is told afterwards.
+    pub fn replay_told(&mut self, run: Replay, stop: Flagged, bytes: Range<usize>, times: u64) -> Made<(Replay, Flagged)> {
+        let run = Replay {
+            stopped: said(stop),
+            ..run
+        };
         let (mut ran, mut world) = (run, self.world());
+        let (mut told, mut current) = (stop, self.current);
         for _ in 0..times {
             ran = replay(&mut world, ran, &self.trace[bytes.clone()], |_, _| ());
+            (told, current) = (handed_back(told, ran.stopped), handed_back(current, world.state.current));
         }
         self.rust = None;
-        self.tell(&Call::Replay(run, bytes, times), course(&ran), world)?;
-        Ok(ran)
+        self.tell(&Call::Replay(run, stop, bytes, times), course(&ran, told), world, current)?;
+        Ok((ran, told))
     }
 
     /// Puts a move to the lists, the reading and the Rust: the answer, and the world after it.

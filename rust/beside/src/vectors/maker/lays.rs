@@ -2,7 +2,7 @@
 
 use super::told::state_tokens;
 use super::{Made, Maker};
-use crate::plain::{Regs, State};
+use crate::plain::{Flagged, Regs, State, anew, said};
 use crate::reading::RECORD_BYTES;
 use crate::vectors::text::{Row, Token, numbers};
 
@@ -13,12 +13,21 @@ const NAN64: u64 = 0x7ff8_0000_0000_0000;
 impl Maker {
     /// Another state, and other lengths lent.
     pub fn give(&mut self, state: State, words: usize, cells: usize) {
+        self.give_told(state, anew(state.current), words, cells);
+    }
+
+    /// Another state, whose current instance is told with any flag, and with any number beside a flag of 0.
+    pub fn give_told(&mut self, state: State, current: Flagged, words: usize, cells: usize) {
+        let state = State {
+            current: said(current),
+            ..state
+        };
         if let Err(why) = plain_floats(&state.regs) {
             self.book.fault(&why);
         }
         let lent = numbers(&[words as u64, cells as u64]);
-        self.book.put(Row::of("state", [state_tokens(&state), lent].concat()));
-        (self.state, self.lent, self.rust) = (state, (words, cells), None);
+        self.book.put(Row::of("state", [state_tokens(&state, current), lent].concat()));
+        (self.state, self.current, self.lent, self.rust) = (state, current, (words, cells), None);
     }
 
     /// Another word.

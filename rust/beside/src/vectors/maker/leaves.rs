@@ -1,8 +1,8 @@
 //! Lines on the trace's bytes, conversions, alignment and the done slot. Of the last three what is expected is the Rust's.
 
-use super::{Made, Maker, Straight};
-use crate::plain::Request;
-use crate::reading::{read_record, write_record};
+use super::{Made, Maker};
+use crate::plain::{Request, Straight};
+use crate::reading::{read_record, write_straight};
 use crate::vectors::call::Call;
 use crate::vectors::text::{Token, numbers};
 use oracle::leaves::{self, DoneSlot, Reason};
@@ -23,10 +23,15 @@ impl Maker {
 
     /// A request's record, written at a place of the trace's first bytes.
     pub fn write(&mut self, length: usize, at: u64, q: &Request) -> Made<u64> {
+        self.write_straight(length, at, &Straight::as_read(q))
+    }
+
+    /// The record that a struct spells; 10 where it breaks the rules of its kind.
+    pub fn write_straight(&mut self, length: usize, at: u64, q: &Straight) -> Made<u64> {
         let mut trace = self.trace.clone();
-        let number = write_record(&mut trace[..length], at, q);
+        let number = write_straight(&mut trace[..length], at, q);
         let answer = [numbers(&[number]), Token::bytes(&trace[..TOLD_BYTES])].concat();
-        self.tell_answer(&Call::Write(length, at, Straight::of(q)), answer, trace)?;
+        self.tell_answer(&Call::Write(length, at, *q), answer, trace)?;
         Ok(number)
     }
 

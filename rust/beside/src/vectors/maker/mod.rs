@@ -5,14 +5,12 @@ mod lays;
 mod leaves;
 mod told;
 
-pub use super::straight::Straight;
-
 use super::buffers::{BUFFER_CELLS, BUFFER_WORDS, FIRST_WORDS, TRACE_BYTES};
 use super::desk::Desk;
 use super::ledger::Ledger;
 use super::text::Book;
 use crate::party::Party;
-use crate::plain::State;
+use crate::plain::{Flagged, State, anew};
 use crate::reading::Reading;
 
 /// A step that failed: the parties differ, and how.
@@ -26,6 +24,8 @@ pub struct Maker {
     cells: Vec<u64>,
     lent: (usize, usize),
     state: State,
+    /// How the state's current instance is told.
+    current: Flagged,
     trace: Vec<u8>,
     /// Whether the buffers are told by sums.
     sums: bool,
@@ -42,6 +42,7 @@ impl Maker {
             cells: vec![0; BUFFER_CELLS],
             lent: (0, 0),
             state: State::default(),
+            current: anew(None),
             trace: vec![0; TRACE_BYTES],
             sums: false,
             rust: None,
@@ -66,6 +67,7 @@ impl Maker {
         self.cells.fill(0);
         self.trace.fill(0);
         (self.lent, self.state, self.sums, self.rust) = ((0, 0), State::default(), false, None);
+        self.current = anew(None);
     }
 
     /// An empty line and a comment above the lines that follow.
@@ -99,6 +101,11 @@ impl Maker {
         &self.state
     }
 
+    /// How the state's current instance is told.
+    pub fn current(&self) -> Flagged {
+        self.current
+    }
+
     /// The stack as the next request finds it.
     pub fn world(&self) -> Reading {
         Reading {
@@ -116,6 +123,7 @@ impl Maker {
     fn desk(&self) -> Desk {
         Desk {
             world: self.world(),
+            current: self.current,
             trace: self.trace.clone(),
         }
     }

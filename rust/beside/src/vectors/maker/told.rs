@@ -1,7 +1,7 @@
 //! A line that asks, as it is told: what the archive finds has to be what is expected.
 
 use super::{Made, Maker};
-use crate::plain::{Answer, State};
+use crate::plain::{Answer, Flagged, State, anew};
 use crate::reading::Reading;
 #[cfg(target_arch = "x86_64")]
 use crate::vectors::archive::difference;
@@ -17,27 +17,36 @@ fn difference(_: &Call, _: Desk, _: &[u64], _: &Desk) -> Option<String> {
 }
 
 impl Maker {
-    /// A line on the stack: the world is this from then on, and told.
-    pub(super) fn tell(&mut self, call: &Call, answer: Vec<Token>, world: Reading) -> Made<()> {
+    /// An answer: a refusal leaves the current instance told as it was.
+    pub(super) fn tell_answered(&mut self, call: &Call, answer: &Answer, world: Reading) -> Made<()> {
+        let current = if answer.accepted() {
+            anew(world.state.current)
+        } else {
+            self.current
+        };
+        self.tell(call, answer_tokens(answer), world, current)
+    }
+
+    /// A line on the stack: the world is this from then on, and told, the current instance so.
+    pub(super) fn tell(&mut self, call: &Call, answer: Vec<Token>, world: Reading, current: Flagged) -> Made<()> {
         let after = Desk {
             world,
+            current,
             trace: self.trace.clone(),
         };
         self.compare(call, &answer, &after)?;
-        self.state = after.world.state;
+        (self.state, self.current) = (after.world.state, current);
         self.words[..self.lent.0].copy_from_slice(&after.world.words);
         self.cells[..self.lent.1].copy_from_slice(&after.world.cells);
-        let expected = vec![answer, state_tokens(&self.state), self.words_told(), self.cells_told()];
+        let state = state_tokens(&self.state, self.current);
+        let expected = vec![answer, state, self.words_told(), self.cells_told()];
         self.put(call, expected);
         Ok(())
     }
 
     /// A line on the trace or on a leaf: only the answer is told.
     pub(super) fn tell_answer(&mut self, call: &Call, answer: Vec<Token>, trace: Vec<u8>) -> Made<()> {
-        let after = Desk {
-            world: self.world(),
-            trace,
-        };
+        let after = Desk { trace, ..self.desk() };
         self.compare(call, &answer, &after)?;
         self.trace = after.trace;
         self.put(call, vec![answer]);
@@ -83,9 +92,9 @@ pub fn answer_tokens(answer: &Answer) -> Vec<Token> {
 }
 
 /// A state's eleven numbers, two of them its current instance.
-pub fn state_tokens(s: &State) -> Vec<Token> {
+pub fn state_tokens(s: &State, current: Flagged) -> Vec<Token> {
     let sizes = [s.depth, s.height, s.words, s.cells, s.count, s.len];
-    [numbers(&sizes), vec![Token::optional(s.current)], registers(&s.regs)].concat()
+    [numbers(&sizes), vec![Token::pair(current)], registers(&s.regs)].concat()
 }
 
 #[cfg(test)]

@@ -163,8 +163,8 @@ mod tests {
     fn pop(answer: u64) -> Row {
         Row {
             word: "pop",
-            given: vec![Token::optional(Some(2))],
-            expected: vec![numbers(&[answer]), vec![Token::optional(None)]],
+            given: vec![Token::pair([1, 2])],
+            expected: vec![numbers(&[answer]), vec![Token::pair([0, 0])]],
         }
     }
 

@@ -16,11 +16,6 @@ pub enum Token {
 }
 
 impl Token {
-    /// A flag and a number; two zeros for none.
-    pub fn optional(given: Option<u64>) -> Self {
-        Self::Pair(u64::from(given.is_some()), given.unwrap_or(0))
-    }
-
     pub fn pair([kind, amount]: [u64; 2]) -> Self {
         Self::Pair(kind, amount)
     }
@@ -83,10 +78,6 @@ mod tests {
         let text = |flag, number| Token::Pair(flag, number).text();
         assert_eq!([text(0, 0), text(1, 0), text(1, 7), text(0, 7)], ["-", "1:0", "1:7", "0:7"]);
         assert_eq!(text(1 << 63, 1 << 20), "0x8000000000000000:0x100000");
-        assert_eq!(
-            (Token::optional(None), Token::optional(Some(3))),
-            (Token::Pair(0, 0), Token::Pair(1, 3))
-        );
     }
 
     #[test]

@@ -4,7 +4,7 @@ mod changed;
 mod flags;
 mod good;
 mod room;
-mod spelled;
+pub mod spelled;
 
 use crate::vectors::maker::{Made, Maker};
 

@@ -4,6 +4,7 @@ mod costs;
 mod fuel;
 mod given;
 mod million;
+mod odd;
 mod parts;
 mod records;
 mod traces;
@@ -18,11 +19,12 @@ use std::ops::Range;
 pub fn make(maker: &mut Maker) -> Made<()> {
     maker.file(
         "replays",
-        "Replays: what each record costs, fuel at the exact cost and one short of it, after a stop, and runs that no replay makes.",
+        "Replays: what each record costs, fuel at the exact cost and one short of it, after a stop, and runs that no replay makes, with any flags.",
     );
     costs::make(maker)?;
     fuel::make(maker)?;
     given::make(maker)?;
+    odd::make(maker)?;
     maker.file(
         "replays-2",
         "Replays: whole traces and their first bytes, traces in parts, and a million records.",

@@ -2,8 +2,8 @@
 
 use super::super::claims::{all_asked, expect, opened, row};
 use super::super::kinds::{IP, host, naming, pop, push, replace, return_host, sync};
-use crate::plain::{Answer, Request, State};
-use crate::vectors::maker::{Made, Maker, Straight};
+use crate::plain::{Answer, Request, State, Straight};
+use crate::vectors::maker::{Made, Maker};
 
 const MOST: u64 = u64::MAX;
 const NO_KINDS: [u64; 7] = [0, 10, 255, 256, 257, 1 << 32 | 1, MOST];

@@ -6,11 +6,10 @@
 --     state-as-it-came             so the state comes back number for number
 --     replay-run-said, replay-state-said     of any result that the promise of `cattlecleat_replay` allows
 use mathlib.Core.Path.{_≡_, refl, sym, ap, _∙_}
-use mathlib.Core.Bool.{Bool, true, false, not, _&&_, false≢true}
+use mathlib.Core.Bool.{Bool, true, false, not, false≢true}
 use mathlib.Core.List.{List, [], _∷_}
 use Prim.Native.Nat.{ℕ, _≤_}
-use lib.Dec.{eqb, ltb}
-use borrow.Author.Tests.{ltb-false, eqb-true, eq-eqb, not-true}
+use borrow.Author.Tests.{ltb-false, eqb-true, eq-eqb}
 use denote.Ref.{now}
 use Rattle.choice.proofs.Bools.{neither, held-passes}
 use Rattle.choice.proofs.Choices.{chosen-where, chosen-first}
@@ -28,43 +27,36 @@ use Rattle.replay.specs.Running.{Running, ShownRan, answerTo, runningOf, runOf,
 use Rattle.replay.proofs.Spent.{RanVerdict, had-stopped, stops-before, goes-on, ran-verdict, stop-stays}
 use Rattle.station.specs.declared.state.Flagged.{Flagged}
 use Rattle.station.specs.declared.traces.CRun.{CRun}
-use Rattle.station.specs.States.{stateFrom, currentIn, says, flaggedBack, stateBack, StateSaid, StateBack}
-use Rattle.station.specs.Runs.{RunTold, runTold, stopIn, runningFrom, runningBack, RunSaid, RunBack, StoppedAsItCame, acceptedAt, anyAccepted, StateAsItCame}
+use Rattle.station.specs.States.{stateFrom, currentIn, isSaid, says, flaggedBack, stateBack, StateSaid, StateBack}
+use Rattle.station.specs.Runs.{RunTold, runTold, stopIn, runningFrom, runningBack, RunSaid, RunBack, StoppedAsItCame, wasAccepted, anyAccepted, StateAsItCame}
 use Rattle.station.proofs.Handed.{given-kept}
 use Rattle.station.proofs.traces.cattlecleat_replay.Reads as replays
 
 -- ---- a flag and the number beside it
 
-abbrev saysBy : (t : Bool) (n : ℕ) → Given → Bool
-saysBy t n Absent = not t
-saysBy t n (Value m) = t && eqb n m
-
 abbrev saidBy : Flagged → Given
 saidBy f = givenIf (truthOf (f .flag)) (f .number)
 
 -- what they are found to say, they say; by the flag's truth
-found-by : (t : Bool) (n : ℕ) (g : Given) → saysBy t n g ≡ true → givenIf t n ≡ g
-found-by t n Absent e = ap (λ b. givenIf b n) (not-true t e)
+found-by : (t : Bool) (n : ℕ) (g : Given) → isSaid t n g ≡ true → givenIf t n ≡ g
+found-by true n Absent e = absurd (false≢true e)
+found-by false n Absent e = refl
 found-by true n (Value m) e = ap Value (eqb-true n m e)
 found-by false n (Value m) e = absurd (false≢true e)
 
 -- and the other way about
-said-by : (t : Bool) (n : ℕ) → saysBy t n (givenIf t n) ≡ true
+said-by : (t : Bool) (n : ℕ) → isSaid t n (givenIf t n) ≡ true
 said-by true n = eq-eqb n n refl
 said-by false n = refl
-
-says-by : (f : Flagged) (g : Given) → says f g ≡ saysBy (truthOf (f .flag)) (f .number) g
-says-by f Absent = refl
-says-by f (Value n) = refl
 
 flagged-said : (f : Flagged) (g : Given) → saidBy (flaggedBack f g) ≡ g
 unfolding flaggedBack
 flagged-said f g =
-    chosen-where (λ x. saidBy x ≡ g) (says f g) _ _ (λ e. found-by (truthOf (f .flag)) (f .number) g (sym (says-by f g) ∙ e)) (λ e. given-kept g)
+    chosen-where (λ x. saidBy x ≡ g) (says f g) _ _ (found-by (truthOf (f .flag)) (f .number) g) (λ e. given-kept g)
 
 flagged-back : (f : Flagged) → flaggedBack f (saidBy f) ≡ f
 unfolding flaggedBack
-flagged-back f = sym (chosen-first _ _ _ _ _ (says-by f (saidBy f) ∙ said-by (truthOf (f .flag)) (f .number)) refl)
+flagged-back f = sym (chosen-first _ _ _ _ _ (said-by (truthOf (f .flag)) (f .number)) refl)
 
 -- ---- a state, and a run
 
@@ -126,10 +118,7 @@ refused-world w (Asks q) two = refused-unchanged w (Traced q) two .0
 refused-world w Bad two = refl
 
 -- one record, by its cases
-abbrev acceptedBy : ShownRan → Bool
-acceptedBy x = not (isGiven (x .run .stop)) && ltb (x .answer) 2
-
-record-refused : {v : Running} {d : Decoded} {x : ShownRan} {costs : List ℕ} → RanVerdict v d x costs → acceptedBy x ≡ false → x .run .world ≡ v .world
+record-refused : {v : Running} {d : Decoded} {x : ShownRan} {costs : List ℕ} → RanVerdict v d x costs → wasAccepted x ≡ false → x .run .world ≡ v .world
 record-refused (had-stopped e) none = refl
 record-refused (stops-before e h) none = refl
 record-refused {v = v} {d = d} (goes-on e h) none =
@@ -139,7 +128,7 @@ pub none-accepted : (v : Running) (ds : List Decoded) → anyAccepted v ds ≡ f
 unfolding ranAll anyAccepted
 none-accepted v [] none = refl
 none-accepted v (d ∷ ds) none =
-    let each = neither (acceptedAt v d) (anyAccepted (ran v d .run) ds) none in
+    let each = neither (wasAccepted (ran v d)) (anyAccepted (ran v d .run) ds) none in
     none-accepted (ran v d .run) ds (each .1) ∙ record-refused (ran-verdict v d) (each .0)
 
 pub state-as-it-came : StateAsItCame

@@ -4,7 +4,7 @@
 --     RunTold, runTold r ws cs         a run with what both buffers hold: what a function promises
 --     runningBack c v                  that of a replay in its course
 --     runningFrom c ws cs              the replay in its course that the numbers say
---     acceptedAt v d, anyAccepted v ds   the record is run and answered with 0 or 1; so one of some records
+--     wasAccepted x, anyAccepted v ds  the record was run and answered with 0 or 1; so one of some records
 -- Statements: RunSaid, what is handed back says the run; RunBack, a run that has not changed comes back number for number; StoppedAsItCame, so one that had
 -- stopped, with both buffers; StateAsItCame, so the state, with both buffers, where no record was accepted.
 use mathlib.Core.Path.{_≡_}
@@ -17,7 +17,7 @@ use Rattle.regs.specs.Convert.{truthOf}
 use Rattle.request.specs.declared.Decoded.{Decoded}
 use Rattle.request.specs.Entries.{entriesIn}
 use Rattle.replay.specs.declared.run.Run.{Run}
-use Rattle.replay.specs.Running.{Running, runWith, runOf, runningOf, ran, replayed}
+use Rattle.replay.specs.Running.{Running, runWith, runOf, runningOf, ShownRan, ran, replayed}
 use Rattle.station.specs.declared.state.Flagged.{Flagged}
 use Rattle.station.specs.declared.traces.CRun.{CRun}
 use Rattle.station.specs.States.{stateFrom, flaggedBy, flaggedBack, stateBack}
@@ -65,12 +65,12 @@ StoppedAsItCame =
 
 -- ---- where no record was accepted
 
-abbrev pub acceptedAt : Running → Decoded → Bool
-acceptedAt v d = not (isGiven (ran v d .run .stop)) && ltb (ran v d .answer) 2
+abbrev pub wasAccepted : ShownRan → Bool
+wasAccepted x = not (isGiven (x .run .stop)) && ltb (x .answer) 2
 
 unfoldable pub anyAccepted : Running → List Decoded → Bool
 anyAccepted v [] = false
-anyAccepted v (d ∷ ds) = acceptedAt v d || anyAccepted (ran v d .run) ds
+anyAccepted v (d ∷ ds) = wasAccepted (ran v d) || anyAccepted (ran v d .run) ds
 
 abbrev pub StateAsItCame : Type 0
 StateAsItCame =

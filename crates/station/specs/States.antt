@@ -53,9 +53,12 @@ registersIn c = stateFrom c .regs
 abbrev pub flaggedBy : (flag number : ℕ) → Flagged
 flaggedBy flag number = record { flag = flag; number = number }
 
+abbrev pub isSaid : (given : Bool) (number : ℕ) → Given → Bool
+isSaid given number Absent = not given
+isSaid given number (Value n) = given && eqb number n
+
 abbrev pub says : Flagged → Given → Bool
-says f Absent = not (truthOf (f .flag))
-says f (Value n) = truthOf (f .flag) && eqb (f .number) n
+says f g = isSaid (truthOf (f .flag)) (f .number) g
 
 unfoldable pub flaggedBack : Flagged → Given → Flagged
 flaggedBack f g = choose (says f g) f (flaggedBy (truthBit (isGiven g)) (givenNumber g))

@@ -1,6 +1,7 @@
 -- `station::traces::cattlecleat_write_record` meets its contract: a kind beyond the nine has no row in the table. Assumes nothing.
 use borrow.Author.Needs.{needs}
 use mathlib.Core.Path.{ap, _∙_}
+use native.Mathlib.Omega.{arith}
 use Rattle.record.specs.Reading.{recordWritten}
 use Rattle.station.proofs.Telling.{written-is-told, none-written}
 use Rattle.station.proofs.traces.cattlecleat_write_record.Statement.{statement}
@@ -10,7 +11,7 @@ pub cattlecleat-write-record-spec : {M : Type 1} → statement M
 cattlecleat-write-record-spec =
     tie.close
     (tie.spec
-    (λ c. none-written _ _ (c .before .before .args .q) (c .if1 .taken))
+    (λ c. let far = c .if1 .taken in none-written _ _ (c .before .before .args .q) (omega (arith, far)))
     (λ c κs. search needs)
     (λ c κs. search needs)
     (λ c κs. search needs)

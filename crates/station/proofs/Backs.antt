@@ -4,6 +4,7 @@
 --     stopped-as-it-came           so a run that had stopped
 --     none-accepted                records of which none is accepted change no state and no buffer
 --     state-as-it-came             so the state comes back number for number
+--     running-said                 what is handed back, with both buffers, says the replay in its course
 --     replay-run-said, replay-state-said     of any result that the promise of `cattlecleat_replay` allows
 use mathlib.Core.Path.{_≡_, refl, sym, ap, _∙_}
 use mathlib.Core.Bool.{Bool, true, false, not, false≢true}
@@ -18,7 +19,7 @@ use Rattle.given.specs.declared.Given.the-variants.{Absent, Value}
 use Rattle.given.specs.Given.{isGiven, givenIf}
 use Rattle.regs.specs.Convert.{truthOf}
 use Rattle.rules.specs.declared.Asked.the-variants.{Traced}
-use Rattle.rules.specs.World.{World}
+use Rattle.rules.specs.World.{World, worldOf}
 use Rattle.rules.proofs.Verdicts.{refused-unchanged}
 use Rattle.request.specs.declared.Decoded.{Decoded}
 use Rattle.request.specs.declared.Decoded.the-variants.{Asks, Bad}
@@ -141,7 +142,7 @@ state-as-it-came c words cells bytes none =
 
 -- ---- of any result that the promise allows
 
-abbrev runningSaid : RunTold → Running
+abbrev pub runningSaid : RunTold → Running
 runningSaid t = runningFrom (t .run) (t .words) (t .cells)
 
 pub running-said : (c : CRun) (v : Running) → runningSaid (runningBack c v) ≡ v
@@ -154,6 +155,8 @@ pub replay-run-said : (κ : _) (a : _) (r : CRun) (e : _) → replays.Post κ a 
 replay-run-said κ a r e p =
     ap runningSaid p ∙ running-said (a .0) (replayed (runningFrom (a .0) (now (a .1 .0)) (now (a .1 .1 .0))) (now (a .1 .1 .1 .0)))
 
+-- and so the state with both buffers says the world
 pub replay-state-said : (κ : _) (a : _) (r : CRun) (e : _) → replays.Post κ a r e
-    → stateFrom (r .state) ≡ replayed (runningFrom (a .0) (now (a .1 .0)) (now (a .1 .1 .0))) (now (a .1 .1 .1 .0)) .world .state
-replay-state-said κ a r e p = ap (λ (v : Running). v .world .state) (replay-run-said κ a r e p)
+    → worldOf (stateFrom (r .state)) (now (e .1 .0)) (now (e .1 .1 .0))
+    ≡ replayed (runningFrom (a .0) (now (a .1 .0)) (now (a .1 .1 .0))) (now (a .1 .1 .1 .0)) .world
+replay-state-said κ a r e p = ap (λ (v : Running). v .world) (replay-run-said κ a r e p)

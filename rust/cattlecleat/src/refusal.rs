@@ -34,7 +34,7 @@ pub enum Refusal {
     /// read has start > `len`, a flag above 1, or flag 0 with a nonzero instance. It comes only from a state or words that did not come
     /// from here, and from a buffer whose length changes.
     Broken = 9,
-    /// 10: trace record that breaks the rules of its kind, or fewer than 40 bytes for it.
+    /// 10: trace record, read or to be written, that breaks the rules of its kind, or fewer than 40 bytes for it.
     BadRecord = 10,
     /// 11: host frame with end above `len`, end below start, or end minus start not max(params, results).
     BadHostFrame = 11,

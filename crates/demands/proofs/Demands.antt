@@ -1,15 +1,18 @@
 -- The three demands. Assumes nothing.
 use Rattle.demands.specs.Demands.{Demand1, Demand2, Demand3}
 use Rattle.demands.proofs.Answers.{requests-refused, requests-follow, histories-follow}
+use Rattle.demands.proofs.AsTheyCame.{states-as-they-came, runs-as-they-came}
 use Rattle.demands.proofs.Openings.{openings-answered}
 use Rattle.demands.proofs.Leaves.{slots-filled, slots-taken, addresses-aligned}
-use Rattle.demands.proofs.Records.{records-read, records-written, requests-decoded, requests-walked, records-read-back}
+use Rattle.demands.proofs.Records.{records-read, records-written, requests-decoded, requests-walked, records-read-back, numbers-read-back}
 use Rattle.demands.proofs.Registers.{registers-handed-back, registers-read}
 use Rattle.demands.proofs.Returned.{calls-return, calls-confined, calls-in-traces}
 
 pub demand-1 : Demand1
 demand-1 = (
   requests-refused,
+  states-as-they-came,
+  runs-as-they-came,
   openings-answered,
   slots-filled,
   slots-taken,
@@ -21,7 +24,7 @@ demand-1 = (
 )
 
 pub demand-2 : Demand2
-demand-2 = (requests-follow, histories-follow, records-read-back, registers-handed-back, registers-read)
+demand-2 = (requests-follow, histories-follow, records-read-back, numbers-read-back, registers-handed-back, registers-read)
 
 pub demand-3 : Demand3
 demand-3 = (calls-return, calls-confined, calls-in-traces)

@@ -1,7 +1,7 @@
 -- From the promises to the definitions: what was heard is what is answered. Assumes nothing.
 --     heard-answered     one request
 --     routine-ran        `call_host` is a host part, and a host that writes
---     state-said, numbers-said     the numbers after an answer say the state after it
+--     state-after-said, numbers-said     the numbers after an answer say the state after it
 use mathlib.Core.Path.{_≡_, refl, sym, ap, _∙_}
 use mathlib.Core.Bool.{Bool, true, false}
 use mathlib.Core.List.{List, []}
@@ -38,9 +38,9 @@ use Rattle.demands.specs.Heard.{by-cattlecleat-ask, by-cattlecleat-sync-
 -- ---- numbers
 
 -- a state after a request, by its numbers: where it is refused they are those that came, and say the state as it was
-state-said : (c : CState) (n : ℕ) (s : State) → (2 ≤ n → s ≡ stateFrom c) → stateFrom (stateAfter c n s) ≡ s
+state-after-said : (c : CState) (n : ℕ) (s : State) → (2 ≤ n → s ≡ stateFrom c) → stateFrom (stateAfter c n s) ≡ s
 unfolding choose
-state-said c n s same = by (leb 2 n) refl
+state-after-said c n s same = by (leb 2 n) refl
   where
     by : (b : Bool) → leb 2 n ≡ b → stateFrom (choose b c (stateTo s)) ≡ s
     by true e = sym (same (leb-true 2 n e))
@@ -51,7 +51,7 @@ abbrev pub answerSaid : ToldAnswer → After
 answerSaid t = afterSaid (t .answer) (t .words) (t .cells)
 
 pub numbers-said : (c : CState) (t : After) → (2 ≤ t .shown .number → t .world .state ≡ stateFrom c) → answerSaid (afterTold c t) ≡ t
-numbers-said c t same = λ i. afterOf (t .shown) (worldOf (state-said c (t .shown .number) (t .world .state) same i) (t .world .words) (t .world .cells))
+numbers-said c t same = λ i. afterOf (t .shown) (worldOf (state-after-said c (t .shown .number) (t .world .state) same i) (t .world .words) (t .world .cells))
 
 answered-said : (c : CState) (words cells : List ℕ) (a : Asked)
     → answerSaid (afterTold c (answered (worldSaid c words cells) a)) ≡ answered (worldSaid c words cells) a

@@ -1,6 +1,7 @@
 pub mod Heard
 pub mod Links
 pub mod Answers
+pub mod AsTheyCame
 pub mod Openings
 pub mod Leaves
 pub mod Records

@@ -12,7 +12,7 @@ use lib.ListN.{length}
 use denote.Ref.{now}
 use Rattle.choice.specs.Choose.{choose}
 use Rattle.given.specs.Given.{isGiven}
-use Rattle.rules.specs.World.{World, worldOf}
+use Rattle.rules.specs.World.{World}
 use Rattle.rules.specs.Answers.{After, refusedWith}
 use Rattle.rules.specs.Events.{Event, steppedBy, ranThrough}
 use Rattle.rules.specs.Returning.{NeverBelow}
@@ -24,9 +24,9 @@ use Rattle.replay.specs.Turns.{ShownTurn, turnAt}
 use Rattle.replay.specs.Resumed.{DepthKept}
 use Rattle.replay.proofs.Spent.{RanVerdict, had-stopped, stops-before, goes-on, ran-verdict, recordCost, recordRan, stop-stays}
 use Rattle.listing.specs.Blocks.{blockRoom, ListedBlock, blockOf, blockWith, linesText, blockListed}
-use Rattle.station.specs.Runs.{runFrom, RunTold, runningTold}
+use Rattle.station.specs.Runs.{runningFrom}
 use Rattle.station.specs.Told.{ToldAnswer, afterTold}
-use Rattle.station.proofs.Handed.{state-kept}
+use Rattle.station.proofs.Backs.{replay-run-said}
 use Rattle.demands.specs.Heard.{worldSaid}
 use Rattle.demands.specs.Links.{eventsBy, eventsRan, entriesHere, entriesListed, Link, asked, by-host-store, by-routine, none-asked}
 use Rattle.demands.specs.Links.{put-in-place, by-cattlecleat-replay, by-replay, by-run-record, by-run-next, by-list-block}
@@ -72,19 +72,9 @@ records-above n v (d ∷ ds) above = one-above n d ds (ran-verdict v d) (above .
 
 -- ---- links
 
--- what the numbers of a run say
-abbrev runSaid : RunTold → World
-runSaid t = worldSaid (t .run .state) (t .words) (t .cells)
-
-pub run-said : (v : Running) → runSaid (runningTold v) ≡ v .world
-run-said v = ap (λ s. worldOf s (v .world .words) (v .world .cells)) (state-kept (v .world .state))
-
 replay-ran : (v : Running) (bytes : List ℕ) → replayed v bytes .world ≡ ranThrough (v .world) (eventsRan v (entriesIn bytes))
 unfolding replayed
 replay-ran v bytes = records-ran v (entriesIn bytes)
-
-replay-said : (v : Running) (bytes : List ℕ) → runSaid (runningTold (replayed v bytes)) ≡ ranThrough (v .world) (eventsRan v (entriesIn bytes))
-replay-said v bytes = run-said (replayed v bytes) ∙ replay-ran v bytes
 
 record-ran : (v : Running) (c : Decoded) → ran v c .run .world ≡ ranThrough (v .world) (eventsRan v (c ∷ []))
 unfolding ranAll
@@ -120,7 +110,8 @@ link-ran (none-asked κ a r e p none) =
     ∙ ap (λ (t : After). t .world) (numbers-said (a .0) (refusedWith w 10) (λ two. refl))
 link-ran (put-in-place s words cells regs put) = refl
 link-ran (by-cattlecleat-replay κ a r e p deep) =
-    ap runSaid p ∙ replay-said (runningOf (runFrom (a .0)) (now (a .1 .0)) (now (a .1 .1 .0))) (now (a .1 .1 .1 .0))
+    ap (λ (v : Running). v .world) (replay-run-said κ a r e p)
+    ∙ replay-ran (runningFrom (a .0) (now (a .1 .0)) (now (a .1 .1 .0))) (now (a .1 .1 .1 .0))
 link-ran (by-replay κ a r e p deep) =
     ap (λ (v : Running). v .world) p ∙ replay-ran (runningOf (a .0) (now (a .1 .0)) (now (a .1 .1 .0))) (now (a .1 .1 .1 .0))
 link-ran (by-run-record κ a r e p deep) =

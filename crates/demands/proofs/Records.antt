@@ -6,8 +6,9 @@ use mathlib.Core.List.{List}
 use Prim.Native.Nat.{ℕ, _+_, _≤_, _<_}
 use lib.Dec.{lit<}
 use lib.ListN.{length}
-use borrow.Author.Tests.{ltb-false}
+use borrow.Author.Tests.{ltb-false, not-false}
 use denote.Ref.{now}
+use Rattle.choice.specs.Choose.{choose}
 use Rattle.choice.specs.Tests.{FirstIs, here, there}
 use Rattle.choice.proofs.Verdict.{Verdict, passes, fails, verdict}
 use Rattle.record.specs.declared.Record.{Record}
@@ -23,17 +24,40 @@ use Rattle.request.specs.Walk.{ShownNext, nextAsks, nextNone, nextAt, requestWr
 use Rattle.request.proofs.Exactly.{decoded-exactly-10, next-10, next-none}
 use Rattle.request.proofs.Nexts.{next-end}
 use Rattle.request.proofs.Trips.{request-reads-back}
-use Rattle.demands.specs.Records.{Unreadable, ReadHeard, by-read-record, WriteHeard, by-write-record, by-write-request, NextHeard, by-next-request}
-use Rattle.demands.specs.Records.{RecordsRead, RecordsWritten, RequestsDecoded, RequestsWalked, RecordsReadBack}
+use Rattle.station.specs.declared.traces.CRead.{CRead}
+use Rattle.station.specs.Requests.{requestFrom, recordSpelt}
+use Rattle.station.specs.Records.{readTold, writtenBy}
+use Rattle.station.proofs.Spelt.{spelt-again}
+use Rattle.station.proofs.ReadBack.{request-back}
+use Rattle.demands.specs.Records.{Unreadable, readSaid, ReadHeard, by-read-record, by-cattlecleat-read-record, WriteHeard, by-write-record}
+use Rattle.demands.specs.Records.{by-write-request, by-cattlecleat-write-record, NextHeard, by-next-request}
+use Rattle.demands.specs.Records.{RecordsRead, RecordsWritten, RequestsDecoded, RequestsWalked, RecordsReadBack, NumbersReadBack}
 
 -- ---- what was heard
+
+-- the numbers of a record that was read spell it
+read-said : (bytes : List ℕ) (at : ℕ) → readSaid (readTold (readAt bytes at)) ≡ readAt bytes at
+unfolding readTests choose
+read-said bytes at = by (verdict (readTests bytes at))
+  where
+    said-of : (t : ShownRead) → readAt bytes at ≡ t → readSaid (readTold t) ≡ t → readSaid (readTold (readAt bytes at)) ≡ readAt bytes at
+    said-of t e same = ap (λ t. readSaid (readTold t)) e ∙ same ∙ sym e
+
+    by : Verdict (readTests bytes at) → readSaid (readTold (readAt bytes at)) ≡ readAt bytes at
+    by (passes p) =
+        said-of (readNumber 0 (recordAt bytes at)) (passes-found bytes at p)
+        (ap (readNumber 0) (spelt-again (recordAt bytes at) (not-false (lawfulRecord (recordAt bytes at)) (p .1 .1 .0))))
+    by (fails n p) = said-of (readRefused n) (fails-bad bytes at p) refl
+
 read-heard : {bytes : List ℕ} {at : ℕ} {t : ShownRead} → ReadHeard bytes at t → t ≡ readAt bytes at
 read-heard (by-read-record κ a r e p) = p
+read-heard (by-cattlecleat-read-record κ a r e p) = ap readSaid p ∙ read-said (now (a .0)) (a .1 .0)
 
 write-heard : {bytes : List ℕ} {at : ℕ} {r : Record} {t : ShownWrite} → WriteHeard bytes at r t → t ≡ recordWritten bytes at r
 unfolding requestWritten
 write-heard (by-write-record κ a r e p) = p
 write-heard (by-write-request κ a r e p) = p
+write-heard (by-cattlecleat-write-record κ a r e p) = p
 
 next-heard : {bytes : List ℕ} {at : ℕ} {t : ShownNext} → NextHeard bytes at t → t ≡ nextAt bytes at
 next-heard (by-next-request κ a r e p) = p
@@ -123,3 +147,11 @@ records-read-back bytes at r t heard fits done =
       λ q e next next-back.
           next-heard next-back ∙ ap (λ (s : ShownWrite). nextAt (s .bytes) at) same ∙ request-back-as bytes at r fits zero q e,
     )
+
+pub numbers-read-back : NumbersReadBack
+numbers-read-back κ a n e p fits done κ′ b r f q same-bytes same-place =
+    let bytes = now (a .0) in
+    let at = a .1 .0 in
+    let back = request-back bytes at (a .1 .1 .0) fits (sym (ap (λ (s : ShownWrite). s .number) p) ∙ done) in
+    let read = q ∙ (λ i. readTold (readAt (same-bytes i) (same-place i))) ∙ ap (λ (s : ShownWrite). readTold (readAt (s .bytes) at)) p in
+    (ap (λ (t : CRead). t .number) read ∙ back .0, ap (λ (t : CRead). requestFrom (t .request)) read ∙ back .1)

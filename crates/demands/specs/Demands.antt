@@ -6,9 +6,10 @@
 --     Demand3     a caller's frame and a current instance; a call is accepted; any requests follow that never take the depth below the callee's; a return ends it.
 --                 Then the caller is as it was
 use Rattle.demands.specs.Answers.{RequestsRefused, RequestsFollow, HistoriesFollow}
+use Rattle.demands.specs.AsTheyCame.{StatesAsTheyCame, RunsAsTheyCame}
 use Rattle.demands.specs.Openings.{OpeningsAnswered}
 use Rattle.demands.specs.Leaves.{SlotsFilled, SlotsTaken, AddressesAligned}
-use Rattle.demands.specs.Records.{RecordsRead, RecordsWritten, RequestsDecoded, RequestsWalked, RecordsReadBack}
+use Rattle.demands.specs.Records.{RecordsRead, RecordsWritten, RequestsDecoded, RequestsWalked, RecordsReadBack, NumbersReadBack}
 use Rattle.demands.specs.Registers.{RegistersBack, RegistersRead}
 use Rattle.demands.specs.Returned.{CallsReturn, CallsConfined, CallsInTraces}
 
@@ -16,6 +17,8 @@ abbrev pub Demand1 : Type 0
 Demand1 =
     -- 2 to 9 and 11
     RequestsRefused
+    × StatesAsTheyCame
+    × RunsAsTheyCame
     -- 14
     × OpeningsAnswered
     -- 12 and 13
@@ -35,6 +38,7 @@ Demand2 =
     RequestsFollow
     × HistoriesFollow
     × RecordsReadBack
+    × NumbersReadBack
     × RegistersBack
     × RegistersRead
 

@@ -40,7 +40,7 @@ use Rattle.station.specs.declared.state.CState.{CState}
 use Rattle.station.specs.declared.answers.CAnswer.{CAnswer}
 use Rattle.station.specs.declared.traces.CRun.{CRun}
 use Rattle.station.specs.Requests.{requestFrom}
-use Rattle.station.specs.Runs.{runFrom}
+use Rattle.station.specs.Runs.{runningFrom}
 use Rattle.station.proofs.cattlecleat_ask.Reads as c-ask
 use Rattle.station.proofs.cattlecleat_replay.Reads as c-replay
 use Rattle.station.proofs.cattlecleat_put_ireg as c-put-ireg
@@ -122,9 +122,9 @@ pub data Link (d : ℕ) : World → List Event → World → Type 0 where
       → Link d (worldSaid s words cells) (registersPut regs ∷ []) (worldSaid (numbersWith s regs) words cells)
   -- a whole trace, or one record of it
   by-cattlecleat-replay : (κ : _) (a : _) (r : CRun) (e : _) → c-replay.Post κ a r e
-      → DepthKept d (runningOf (runFrom (a .0)) (now (a .1 .0)) (now (a .1 .1 .0))) (entriesIn (now (a .1 .1 .1 .0)))
+      → DepthKept d (runningFrom (a .0) (now (a .1 .0)) (now (a .1 .1 .0))) (entriesIn (now (a .1 .1 .1 .0)))
       → Link d (worldSaid (a .0 .state) (now (a .1 .0)) (now (a .1 .1 .0)))
-      (eventsRan (runningOf (runFrom (a .0)) (now (a .1 .0)) (now (a .1 .1 .0))) (entriesIn (now (a .1 .1 .1 .0))))
+      (eventsRan (runningFrom (a .0) (now (a .1 .0)) (now (a .1 .1 .0))) (entriesIn (now (a .1 .1 .1 .0))))
       (worldSaid (r .state) (now (e .1 .0)) (now (e .1 .1 .0)))
   by-replay : (κ : _) (a : _) (r : Run) (e : _) → replays.Post κ a r e
       → DepthKept d (runningOf (a .0) (now (a .1 .0)) (now (a .1 .1 .0))) (entriesIn (now (a .1 .1 .1 .0)))

@@ -9,13 +9,13 @@ use Rattle.rules.specs.declared.Asked.the-variants.{Traced}
 use Rattle.rules.specs.Rules.{answered}
 use Rattle.request.specs.declared.Decoded.the-variants.{Asks}
 use Rattle.request.specs.Entries.{entriesIn}
-use Rattle.replay.specs.Running.{runningOf, replayed}
+use Rattle.replay.specs.Running.{replayed}
 use Rattle.replay.specs.Resumed.{DepthKept}
 use Rattle.station.specs.declared.state.CState.{CState}
 use Rattle.station.specs.declared.requests.CRequest.{CRequest}
 use Rattle.station.specs.declared.traces.CRun.{CRun}
 use Rattle.station.specs.Requests.{requestFrom}
-use Rattle.station.specs.Runs.{runFrom}
+use Rattle.station.specs.Runs.{runningFrom}
 use Rattle.demands.specs.Heard.{worldSaid, Heard}
 use Rattle.demands.specs.Links.{eventsRan, Link}
 
@@ -26,6 +26,6 @@ AskedByAny =
 
 abbrev pub ReplayedByAny : Type 0
 ReplayedByAny =
-    (κ : Lfts 3) (d : ℕ) (run : CRun) (words cells bytes : List ℕ) → DepthKept d (runningOf (runFrom run) words cells) (entriesIn bytes)
-    → Link d (worldSaid (run .state) words cells) (eventsRan (runningOf (runFrom run) words cells) (entriesIn bytes))
-    (replayed (runningOf (runFrom run) words cells) bytes .world)
+    (κ : Lfts 3) (d : ℕ) (run : CRun) (words cells bytes : List ℕ) → DepthKept d (runningFrom run words cells) (entriesIn bytes)
+    → Link d (worldSaid (run .state) words cells) (eventsRan (runningFrom run words cells) (entriesIn bytes))
+    (replayed (runningFrom run words cells) bytes .world)

@@ -5,6 +5,7 @@
 --     NextHeard bytes at t         what stands at a place of a trace was asked for
 --     RecordsRead, RecordsWritten, RequestsDecoded, RequestsWalked      10 exactly then
 --     RecordsReadBack              a record written reads back as the same record, and so as the same request
+--     NumbersReadBack              over the C face: as numbers that say the same request
 use mathlib.Core.Path.{_≡_}
 use mathlib.Core.Bool.{false}
 use mathlib.Core.Logic.{_↔_, _⊎_}
@@ -17,7 +18,7 @@ use Rattle.record.specs.declared.Read.{Read}
 use Rattle.record.specs.declared.Written.{Written}
 use Rattle.record.specs.Form.{recordSize, spareIn, FieldsFit}
 use Rattle.record.specs.Kinds.{lawfulRecord}
-use Rattle.record.specs.Reading.{partAt, recordAt, ShownRead, readNumber, readRefused, shownRead, ShownWrite, writeRefused, writeDone, shownWrite}
+use Rattle.record.specs.Reading.{partAt, recordAt, ShownRead, readNumber, readRefused, shownRead, ShownWrite, writeNumber, writeRefused, writeDone, shownWrite}
 use Rattle.record.proofs.read_record.Reads as read-record
 use Rattle.record.proofs.write_record.Reads as write-record
 use Rattle.rules.specs.declared.Request.{Request}
@@ -28,6 +29,10 @@ use Rattle.request.specs.Walk.{shownDecoded, ShownNext, nextAsks, nextNone, sho
 use Rattle.request.proofs.request_of.Reads as request-of
 use Rattle.request.proofs.next_request.Reads as next-request
 use Rattle.request.proofs.write_request.Reads as write-request
+use Rattle.station.specs.declared.traces.CRead.{CRead}
+use Rattle.station.specs.Requests.{requestFrom, recordSpelt}
+use Rattle.station.proofs.cattlecleat_read_record.Reads as c-read-record
+use Rattle.station.proofs.cattlecleat_write_record.Reads as c-write-record
 
 abbrev pub Unreadable : List ℕ → (at : ℕ) → Type 0
 Unreadable bytes at =
@@ -37,8 +42,12 @@ Unreadable bytes at =
 
 -- ---- what was heard
 
+abbrev pub readSaid : CRead → ShownRead
+readSaid r = readNumber (r .number) (recordSpelt (r .request))
+
 pub data ReadHeard : List ℕ → (at : ℕ) → ShownRead → Type 0 where
   by-read-record : (κ : _) (a : _) (r : Read) (e : _) → read-record.Post κ a r e → ReadHeard (now (a .0)) (a .1 .0) (shownRead r)
+  by-cattlecleat-read-record : (κ : _) (a : _) (r : CRead) (e : _) → c-read-record.Post κ a r e → ReadHeard (now (a .0)) (a .1 .0) (readSaid r)
 
 pub data WriteHeard : List ℕ → (at : ℕ) → Record → ShownWrite → Type 0 where
   by-write-record : (κ : _) (a : _) (r : Written) (e : _) → write-record.Post κ a r e
@@ -46,6 +55,9 @@ pub data WriteHeard : List ℕ → (at : ℕ) → Record → ShownWrite → Type
   -- a request's record
   by-write-request : (κ : _) (a : _) (r : Written) (e : _) → write-request.Post κ a r e
       → WriteHeard (now (a .0)) (a .1 .0) (recordFor (a .1 .1 .0)) (shownWrite r (now (e .0)))
+  -- the record that the numbers spell
+  by-cattlecleat-write-record : (κ : _) (a : _) (r : ℕ) (e : _) → c-write-record.Post κ a r e
+      → WriteHeard (now (a .0)) (a .1 .0) (recordSpelt (a .1 .1 .0)) (writeNumber r (now (e .0)))
 
 pub data NextHeard : List ℕ → (at : ℕ) → ShownNext → Type 0 where
   by-next-request : (κ : _) (a : _) (r : Next) (e : _) → next-request.Post κ a r e → NextHeard (now (a .0)) (a .1 .0) (shownNext r)
@@ -84,3 +96,9 @@ RecordsReadBack =
     → ((read : ShownRead) → ReadHeard (t .bytes) at read → read ≡ readNumber 0 r)
     -- and the request that it is of
     × ((q : Request) → r ≡ recordFor q → (next : ShownNext) → NextHeard (t .bytes) at next → next ≡ nextAsks (at + recordSize) q)
+
+abbrev pub NumbersReadBack : Type 0
+NumbersReadBack =
+    (κ : _) (a : _) (n : ℕ) (e : _) → c-write-record.Post κ a n e → FieldsFit (recordSpelt (a .1 .1 .0)) → n ≡ 0
+    → (κ′ : _) (b : _) (r : CRead) (f : _) → c-read-record.Post κ′ b r f → now (b .0) ≡ now (e .0) → b .1 .0 ≡ a .1 .0
+    → (r .number ≡ 0) × (requestFrom (r .request) ≡ requestFrom (a .1 .1 .0))

@@ -6,7 +6,7 @@ use Rattle.demands.proofs.Openings.{openings-answered}
 use Rattle.demands.proofs.Leaves.{slots-filled, slots-taken, addresses-aligned}
 use Rattle.demands.proofs.Records.{records-read, records-written, requests-decoded, requests-walked, records-read-back, numbers-read-back}
 use Rattle.demands.proofs.Registers.{registers-handed-back, registers-read}
-use Rattle.demands.proofs.Returned.{calls-return, calls-confined, calls-in-traces}
+use Rattle.demands.proofs.Returned.{calls-return, calls-in-traces}
 
 pub demand-1 : Demand1
 demand-1 = (
@@ -27,4 +27,4 @@ pub demand-2 : Demand2
 demand-2 = (requests-follow, histories-follow, records-read-back, numbers-read-back, registers-handed-back, registers-read)
 
 pub demand-3 : Demand3
-demand-3 = (calls-return, calls-confined, calls-in-traces)
+demand-3 = (calls-return, calls-in-traces)

@@ -43,7 +43,8 @@ module _ (d : Decoded) (ds : List Decoded) where
   one-ran {v} (stops-before e k) rest = ap (λ u. u .world) (stop-stays (stoppedBefore v (recordCost v d)) ds refl)
   one-ran {v} (goes-on e k) rest = rw e (rest ∙ first d)
     where
-      first : (c : Decoded) → ranThrough (answerTo (v .world) c .world) (eventsRan (recordRan v d .run) ds) ≡ ranThrough (v .world) (eventsBy c (eventsRan (recordRan v d .run) ds))
+      first : (c : Decoded) → ranThrough (answerTo (v .world) c .world) (eventsRan (recordRan v d .run) ds)
+          ≡ ranThrough (v .world) (eventsBy c (eventsRan (recordRan v d .run) ds))
       first (Asks q) = refl
       first Bad = refl
 
@@ -61,7 +62,8 @@ module _ (n : ℕ) (d : Decoded) (ds : List Decoded) where
   one-above {v} (stops-before e k) deep rest = deep
   one-above {v} (goes-on e k) deep rest = rw e (first d rest)
     where
-      first : (c : Decoded) → NeverBelow n (answerTo (v .world) c .world) (eventsRan (recordRan v d .run) ds) → NeverBelow n (v .world) (eventsBy c (eventsRan (recordRan v d .run) ds))
+      first : (c : Decoded) → NeverBelow n (answerTo (v .world) c .world) (eventsRan (recordRan v d .run) ds)
+          → NeverBelow n (v .world) (eventsBy c (eventsRan (recordRan v d .run) ds))
       first (Asks q) above = (deep, above)
       first Bad above = above
 

@@ -30,5 +30,7 @@ pub replayed-by-any : ReplayedByAny
 replayed-by-any κ d run words cells bytes deep =
     let v : Running = runningFrom run words cells in
     let t : RunTold = runningBack run (replayed v bytes) in
-    subst (λ (u : World). Link d (worldSaid (run .state) words cells) (eventsRan v (entriesIn bytes)) u) (ap (λ (v : Running). v .world) (running-said run (replayed v bytes)))
-    (by-cattlecleat-replay κ (run, (lent words, (lent cells, (lent bytes, tt)))) (t .run) (run, (lent (t .words), (lent (t .cells), (lent bytes, tt)))) refl deep)
+    subst (λ (u : World). Link d (worldSaid (run .state) words cells) (eventsRan v (entriesIn bytes)) u)
+    (ap (λ (v : Running). v .world) (running-said run (replayed v bytes)))
+    (by-cattlecleat-replay κ (run, (lent words, (lent cells, (lent bytes, tt)))) (t .run)
+    (run, (lent (t .words), (lent (t .cells), (lent bytes, tt)))) refl deep)

@@ -14,7 +14,8 @@ use Rattle.choice.proofs.Verdict.{Verdict, passes, fails, verdict}
 use Rattle.record.specs.declared.Record.{Record}
 use Rattle.record.specs.Form.{recordSize, FieldsFit}
 use Rattle.record.specs.Kinds.{lawfulRecord}
-use Rattle.record.specs.Reading.{recordAt, ShownRead, readNumber, readRefused, readTests, readAt, ShownWrite, writeRefused, writeDone, writeTests, recordWritten}
+use Rattle.record.specs.Reading.{recordAt, ShownRead, readNumber, readRefused, readTests, readAt}
+use Rattle.record.specs.Reading.{ShownWrite, writeRefused, writeDone, writeTests, recordWritten}
 use Rattle.record.proofs.Exactly.{read-10, write-10}
 use Rattle.record.proofs.Reading.{passes-found, fails-bad, passes-written, fails-unwritten, written-passes}
 use Rattle.record.proofs.Trips.{written-reads-back}

@@ -1,5 +1,5 @@
 -- Demand 3 where hosts stand, from the return theorem of rules: what was heard is what the definitions answer. Assumes nothing.
---     resumed-said         what rules concludes, field by field
+--     resumed-said         what rules concludes, field by field as it is written out there and here
 --     by-rules             what is assumed gives what rules assumes
 use mathlib.Core.Path.{_≡_, sym, ap, subst, _∙_}
 use mathlib.Core.List.{List, _∷_, _++_}
@@ -13,28 +13,19 @@ use Rattle.rules.specs.World.{World, cellAt}
 use Rattle.rules.specs.Answers.{noHost, After}
 use Rattle.rules.specs.Rules.{answered}
 use Rattle.rules.specs.Events.{Event, asks, steppedBy, ranThrough}
-use Rattle.rules.specs.Returning.{Accepted, theCall, afterCall, ipGiven, NeverBelow, Gives, beforeReturn, theReturn, CalledAndReturned, CallerResumed, KeepToParts}
+use Rattle.rules.specs.Returning.{Accepted, theCall, afterCall, ipGiven, NeverBelow, Gives, beforeReturn, theReturn}
+use Rattle.rules.specs.Returning.{CalledAndReturned, CallerResumed, KeepToParts}
 use Rattle.rules.proofs.Returning.{return-theorem}
 use Rattle.rules.proofs.Confined.{confined-hosts}
+use Rattle.rules.proofs.Pinned.{resumed-pinned}
 use Rattle.demands.specs.Heard.{Heard}
 use Rattle.demands.specs.Links.{History}
-use Rattle.demands.specs.Returned.{ResumedSaid, CallsReturn, CallsConfined, CallsInTraces}
+use Rattle.demands.specs.Returned.{ResumedSaid, CallsReturn, CallsInTraces}
 use Rattle.demands.proofs.Heard.{heard-answered}
 use Rattle.demands.proofs.Links.{ran-join, history-ran, history-above}
 
 resumed-said : {w : World} {A p s : ℕ} {es : List Event} {v : World} {i : ℕ} {t : After} → CallerResumed w A p s es v i t → ResumedSaid w A p s es v i t
-resumed-said h = (
-  h .older-frames,
-  h .caller-frame,
-  h .same-instance,
-  h .answer-zero,
-  h .names-ip,
-  h .names-start,
-  h .owed-instance,
-  h .given-instance,
-  h .current-instance,
-  h .cells-kept,
-)
+resumed-said {w} {A} {p} {s} {es} {v} {i} {t} h = resumed-pinned w A p s es v i t .0 h
 
 module _ (w : World) (A : ℕ) (q : PushArgs) (call : After) (es : List Event) (v : World) (r : Request) (i : ℕ) (back : After)
     (has-caller : 0 < w .state .count)
@@ -83,10 +74,8 @@ pub calls-return : CallsReturn
 calls-return w A q call es v r i back some current heard accepted between gives return-heard return-accepted to-caller = (
   return-theorem w A q es r i (by-rules w A q call es v r i back some current heard accepted between gives return-heard return-accepted to-caller) .0,
   resumed-said (resumed-as-heard w A q call es v r i back some current heard accepted between gives return-heard return-accepted to-caller),
+  confined-as-heard w A q call es v r i back some current heard accepted between gives return-heard return-accepted to-caller,
 )
-
-pub calls-confined : CallsConfined
-calls-confined = confined-as-heard
 
 -- ---- anywhere among the events
 

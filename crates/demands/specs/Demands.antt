@@ -1,17 +1,17 @@
 -- The three demands, a statement each, by the public functions' own promises. An audit signs these; the rest is checked by the machine.
---     Demand1     any state, request, bytes and lent buffers get an answer. A refusal has its number and its place in document 01's order, is given exactly then,
---                 and changes no cell, frame or state. (That every public function of every library answers every input, with no `requires`, and that its promise
---                 allows one outcome, is `Settled`, of each: proofs/Functions.antt)
+--     Demand1     any state, request, bytes and lent buffers get an answer. A refusal has its number and its place in document 01's order, is given
+--                 exactly then, and changes no cell, frame or state. (That every public function of every library answers every input, with no
+--                 `requires`, and that its promise allows one outcome, is `Settled`, of each: proofs/Functions.antt)
 --     Demand2     every accepted request gives what document 01's definitions say. A trace record written reads back as the same request
---     Demand3     a caller's frame and a current instance; a call is accepted; any requests follow that never take the depth below the callee's; a return ends it.
---                 Then the caller is as it was
+--     Demand3     a caller's frame and a current instance; a call is accepted; any requests follow that never take the depth below the callee's; a
+--                 return ends it. Then the caller is as it was
 use Rattle.demands.specs.Answers.{RequestsRefused, RequestsFollow, HistoriesFollow}
 use Rattle.demands.specs.AsTheyCame.{StatesAsTheyCame, RunsAsTheyCame}
 use Rattle.demands.specs.Openings.{OpeningsAnswered}
 use Rattle.demands.specs.Leaves.{SlotsFilled, SlotsTaken, AddressesAligned}
 use Rattle.demands.specs.Records.{RecordsRead, RecordsWritten, RequestsDecoded, RequestsWalked, RecordsReadBack, NumbersReadBack}
 use Rattle.demands.specs.Registers.{RegistersBack, RegistersRead}
-use Rattle.demands.specs.Returned.{CallsReturn, CallsConfined, CallsInTraces}
+use Rattle.demands.specs.Returned.{CallsReturn, CallsInTraces}
 
 abbrev pub Demand1 : Type 0
 Demand1 =
@@ -45,5 +45,4 @@ Demand2 =
 abbrev pub Demand3 : Type 0
 Demand3 =
     CallsReturn
-    × CallsConfined
     × CallsInTraces

@@ -1,5 +1,5 @@
--- One request, by any public function, in Rattle or over the C face, and what it showed and left: read off the function's own promise alone, `Reads.Post`, which
--- is what the checker made of its `ensures`.
+-- One request, by any public function, in Rattle or over the C face, and what it showed and left: read off the function's own promise alone,
+-- `Reads.Post`, which is what the checker made of its `ensures`.
 --     worldSaid s ws cs      the world that a state's numbers say, with what both buffers hold
 --     afterSaid r ws cs      what an answer's numbers say
 --     Heard w a t            a function was called in world w to ask for a, and by its promise showed and left t

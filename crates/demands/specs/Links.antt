@@ -1,5 +1,5 @@
--- What happens to a stack between two moments, by the functions' own promises. A whole trace is one link: so a push by a function, a trace by a replay and a pop
--- by a function make a history.
+-- What happens to a stack between two moments, by the functions' own promises. A whole trace is one link: so a push by a function, a trace by a replay
+-- and a pop by a function make a history.
 --     eventsRan v ds         what the records of a replay asked for, as far as they were run
 --     entriesHere, entriesListed      the record at a place of a trace, none behind its end; those of a block that has room for its lines
 --     InPlace before after   registers that a function stores in place

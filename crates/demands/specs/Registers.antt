@@ -1,6 +1,6 @@
 -- Demand 2, of the registers: what is stored is handed back.
---     RegistersBack     registers that an accepted sync stored are in the state, and an accepted restore hands them back, whatever was asked in between, as long as it
---                       was no reset, no register sync and no store in place
+--     RegistersBack     registers that an accepted sync stored are in the state, and an accepted restore hands them back, whatever was asked in
+--                       between, as long as it was no reset, no register sync and no store in place
 --     RegistersRead     what the reading functions hand out is what the state, or the record of registers, holds
 use mathlib.Core.Path.{_≡_}
 use mathlib.Core.List.{List}

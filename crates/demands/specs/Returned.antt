@@ -1,8 +1,8 @@
 -- Demand 3, where hosts stand: whatever happens in between, by whatever functions, a return finds the caller as it was.
 --     ResumedSaid        what follows, of the world w before the call, its instance A, the ip p that the call gave and the callee's start s, the events es in
 --                        between, the world v before the return, the instance i that the return gives, and what it showed and left, t
---     CallsReturn        of a call and a return that were heard, and a history in between: the caller is resumed
---     CallsConfined      and no cell before the callee's start has changed, where hosts keep to the parts that they are lent
+--     CallsReturn        of a call and a return that were heard, and a history in between: the caller is resumed; and no cell before the callee's start has
+--                        changed, where hosts keep to the parts that they are lent
 --     CallsInTraces      the same of a call and a return that stand anywhere among the events of a history, so also inside a trace
 use mathlib.Core.Path.{_≡_}
 use mathlib.Core.List.{List, _∷_, _++_}
@@ -57,24 +57,8 @@ CallsReturn =
     -- the push gave an ip, and the caller is resumed
     → (q .caller ≡ Value (ipGiven q))
     × ResumedSaid w A (ipGiven q) (call .shown .values .offset) es v i back
-
-abbrev pub CallsConfined : Type 0
-CallsConfined =
-    (w : World) (A : ℕ) (q : PushArgs) (call : After) (es : List Event) (v : World) (r : Request) (i : ℕ) (back : After)
-    → 0 < w .state .count
-    → w .state .current ≡ Value A
-    → Heard w (Traced (Push q)) call
-    → Accepted call
-    → History (call .world .state .count) (call .world) es v
-    → Gives r i
-    → Heard v (Traced r) back
-    → Accepted back
-    → back .world .state .count ≡ w .state .count
-    -- each host wrote only inside the part that the request just before handed out
-    → KeepToParts noHost (call .world) es
-    → (k : ℕ)
-    → k < call .shown .values .offset
-    → cellAt (back .world) k ≡ cellAt w k
+    -- and where each host wrote only inside the part that the request just before handed out, no cell before the callee's start has changed
+    × (KeepToParts noHost (call .world) es → (k : ℕ) → k < call .shown .values .offset → cellAt (back .world) k ≡ cellAt w k)
 
 abbrev pub CallsInTraces : Type 0
 CallsInTraces =

@@ -1,14 +1,27 @@
--- Number for number: a refusal tells the numbers that came. Assumes nothing.
-use mathlib.Core.Path.{_≡_, refl, ap, _∙_}
+-- Number for number: a refusal tells the numbers that came, and no request is refused with 10. Assumes nothing.
+use mathlib.Core.Path.{_≡_, refl, sym, ap, _∙_}
+use mathlib.Core.List.{List, []}
+use mathlib.Core.Logic.{_↔_}
 use Prim.Native.Nat.{ℕ, _≤_}
-use lib.Dec.{leb}
+use lib.Dec.{leb, lit≤}
 use borrow.Author.Tests.{le-leb}
 use denote.Ref.{now}
 use Rattle.choice.specs.Choose.{choose}
+use Rattle.choice.specs.Tests.{FirstIs, here, there}
 use Rattle.rules.specs.declared.State.{State}
-use Rattle.rules.specs.declared.Asked.the-variants.{SyncRegs}
+use Rattle.rules.specs.declared.Request.the-variants.{Push, Pop, Replace, Host, ReturnHost, Sync, Restore, Reset, Set}
+use Rattle.rules.specs.declared.Asked.{Asked}
+use Rattle.rules.specs.declared.Asked.the-variants.{Traced, SyncRegs, HostPart}
+use Rattle.rules.specs.World.{World}
 use Rattle.rules.specs.Answers.{After}
-use Rattle.rules.specs.Rules.{answered}
+use Rattle.rules.specs.Calls.{pushTests, replaceTests}
+use Rattle.rules.specs.Returns.{popTests}
+use Rattle.rules.specs.Hosts.{hostTests, returnHostTests, partTests}
+use Rattle.rules.specs.Syncs.{syncTests, restoreTests, resetTests, setTests, registerTests}
+use Rattle.rules.specs.Rules.{testsOf, answered}
+use Rattle.rules.proofs.Verdicts.{exactly-then, refused-unchanged}
+use Rattle.request.specs.declared.Decoded.{Decoded}
+use Rattle.request.specs.declared.Decoded.the-variants.{Asks, Bad}
 use Rattle.replay.specs.Running.{answerTo}
 use Rattle.station.specs.declared.state.CState.{CState}
 use Rattle.station.specs.declared.answers.CAnswer.{CAnswer}
@@ -17,26 +30,67 @@ use Rattle.station.specs.Told.{stateAfter, told, ToldAnswer, afterTold}
 use Rattle.station.specs.Runs.{RunTold}
 use Rattle.station.proofs.Backs.{state-as-it-came}
 use Rattle.demands.specs.Heard.{worldSaid}
-use Rattle.demands.specs.AsTheyCame.{StatesAsTheyCame, RunsAsTheyCame}
+use Rattle.demands.specs.AsTheyCame.{NumbersAsked, StatesAsTheyCame, RunsAsTheyCame}
 
+-- ---- 10
+
+none-left : {n : ℕ} → FirstIs [] n → ⊥
+none-left = elim [ ]
+
+-- it stands in no list
+no-ten : (w : World) (a : Asked) → FirstIs (testsOf w a) 10 → ⊥
+unfolding pushTests popTests replaceTests hostTests returnHostTests syncTests restoreTests resetTests setTests registerTests partTests
+no-ten w (Traced (Push q)) (there a (there b (there c (there d (there e (there f (there g (there h p)))))))) = none-left p
+no-ten w (Traced (Pop instance)) (there a (there b p)) = none-left p
+no-ten w (Traced (Replace q)) (there a (there b (there c (there d (there e (there f p)))))) = none-left p
+no-ten w (Traced (Host q)) (there a (there b (there c (there d p)))) = none-left p
+no-ten w (Traced (ReturnHost q)) (there a (there b (there c (there d (there e p))))) = none-left p
+no-ten w (Traced (Sync ip)) (there a (there b p)) = none-left p
+no-ten w (Traced Restore) (there a (there b (there c p))) = none-left p
+no-ten w (Traced Reset) (there a p) = none-left p
+no-ten w (Traced (Set head cell)) (there a (there b (there c p))) = none-left p
+no-ten w (SyncRegs regs) (there a p) = none-left p
+no-ten w (HostPart frame) (there a (there b p)) = none-left p
+
+ten-said : (w : World) (d : Decoded) → answerTo w d .shown .number ≡ 10 ↔ d ≡ Bad
+ten-said w (Asks q) = (λ e. absurd (no-ten w (Traced q) (exactly-then w (Traced q) 10 (lit≤ tt) .0 e)), λ e. ap (λ d. answerTo w d .shown .number) e)
+ten-said w Bad = (λ e. refl, λ e. refl)
+
+pub numbers-asked : NumbersAsked
+numbers-asked κ a r e p =
+    let ten = ten-said (worldSaid (a .0) (now (a .1 .0)) (now (a .1 .1 .0))) (requestFrom (a .1 .1 .1 .0)) in
+    let same = ap (λ (t : ToldAnswer). t .answer .number) p in
+    (λ n. ten .0 (sym same ∙ n), λ bad. same ∙ ten .1 bad)
+
+-- ---- as they came
 came-back : (c : CState) (n : ℕ) (s : State) → 2 ≤ n → stateAfter c n s ≡ c
 unfolding choose
 came-back c n s h = rw (le-leb 2 n h) refl
 
 -- of any answer
-as-it-came : (c : CState) (t : After) (r : CAnswer) (u : ToldAnswer) → told r (u .words) (u .cells) ≡ afterTold c t → 2 ≤ r .number → r .state ≡ c
-as-it-came c t r u p two =
+as-it-came : (c : CState) (t : After) (r : CAnswer) (words cells : List ℕ) → told r words cells ≡ afterTold c t → 2 ≤ r .number → r .state ≡ c
+as-it-came c t r words cells p two =
     let number = ap (λ (a : ToldAnswer). a .answer .number) p in
     ap (λ (a : ToldAnswer). a .answer .state) p ∙ came-back c (t .shown .number) (t .world .state) (rw number at two)
+
+refused-same : (w : World) (d : Decoded) → 2 ≤ answerTo w d .shown .number → answerTo w d .world ≡ w
+refused-same w (Asks q) two = refused-unchanged w (Traced q) two .0
+refused-same w Bad two = refl
 
 pub states-as-they-came : StatesAsTheyCame
 states-as-they-came = (
   λ κ a r e p two.
       let w = worldSaid (a .0) (now (a .1 .0)) (now (a .1 .1 .0)) in
-      as-it-came (a .0) (answerTo w (requestFrom (a .1 .1 .1 .0))) r (told r (now (e .1 .0)) (now (e .1 .1 .0))) p two,
+      let t : After = answerTo w (requestFrom (a .1 .1 .1 .0)) in
+      let number = ap (λ (t : ToldAnswer). t .answer .number) p in
+      let same = refused-same w (requestFrom (a .1 .1 .1 .0)) (rw number at two) in (
+        as-it-came (a .0) t r (now (e .1 .0)) (now (e .1 .1 .0)) p two,
+        ap (λ (t : ToldAnswer). t .words) p ∙ ap (λ (u : World). u .words) same,
+        ap (λ (t : ToldAnswer). t .cells) p ∙ ap (λ (u : World). u .cells) same,
+      ),
   λ κ a r e p two.
       let w = worldSaid (a .0) (now (a .1 .0)) (now (a .1 .1 .0)) in
-      as-it-came (a .0) (answered w (SyncRegs (a .1 .1 .1 .0))) r (told r (now (a .1 .0)) (now (a .1 .1 .0))) p two,
+      as-it-came (a .0) (answered w (SyncRegs (a .1 .1 .1 .0))) r (now (a .1 .0)) (now (a .1 .1 .0)) p two,
 )
 
 pub runs-as-they-came : RunsAsTheyCame

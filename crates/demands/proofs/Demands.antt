@@ -1,16 +1,18 @@
 -- The three demands. Assumes nothing.
 use Rattle.demands.specs.Demands.{Demand1, Demand2, Demand3}
 use Rattle.demands.proofs.Answers.{requests-refused, requests-follow, histories-follow}
-use Rattle.demands.proofs.AsTheyCame.{states-as-they-came, runs-as-they-came}
+use Rattle.demands.proofs.AsTheyCame.{numbers-asked, states-as-they-came, runs-as-they-came}
 use Rattle.demands.proofs.Openings.{openings-answered}
 use Rattle.demands.proofs.Leaves.{slots-filled, slots-taken, addresses-aligned}
 use Rattle.demands.proofs.Records.{records-read, records-written, requests-decoded, requests-walked, records-read-back, numbers-read-back}
 use Rattle.demands.proofs.Registers.{registers-handed-back, registers-read}
+use Rattle.demands.proofs.Parts.{parts-inside, routine-inside, parts-told}
 use Rattle.demands.proofs.Returned.{calls-return, calls-in-traces}
 
 pub demand-1 : Demand1
 demand-1 = (
   requests-refused,
+  numbers-asked,
   states-as-they-came,
   runs-as-they-came,
   openings-answered,
@@ -24,7 +26,7 @@ demand-1 = (
 )
 
 pub demand-2 : Demand2
-demand-2 = (requests-follow, histories-follow, records-read-back, numbers-read-back, registers-handed-back, registers-read)
+demand-2 = (requests-follow, histories-follow, records-read-back, numbers-read-back, registers-handed-back, registers-read, parts-told)
 
 pub demand-3 : Demand3
-demand-3 = (calls-return, calls-in-traces)
+demand-3 = (calls-return, calls-in-traces, parts-inside, routine-inside)

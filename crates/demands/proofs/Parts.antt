@@ -19,8 +19,11 @@ use Rattle.rules.specs.Broken.{brokenState}
 use Rattle.rules.specs.Hosts.{partTests, partCells, partPlace}
 use Rattle.rules.specs.Returning.{Inside}
 use Rattle.rules.proofs.Confined.{handed-out-rises}
-use Rattle.demands.specs.Heard.{routineWrites}
-use Rattle.demands.specs.Parts.{PartsInside, RoutineInside}
+use Rattle.station.specs.declared.parts.CPart.{CPart}
+use Rattle.station.specs.Parts.{partTold}
+use Rattle.station.proofs.Within.{part-within, part-is-lent}
+use Rattle.demands.specs.Heard.{worldSaid, routineWrites}
+use Rattle.demands.specs.Parts.{PartsInside, RoutineInside, LentAsTold, PartsTold}
 use Rattle.demands.proofs.Heard.{heard-answered}
 
 -- where it has cells
@@ -68,3 +71,17 @@ pub routine-inside : RoutineInside
 routine-inside u a t heard w =
     routine-fits w (t .shown .values .host)
     (subst (λ (o : After). o .shown .values .host .start ≤ o .shown .values .host .end) (sym (heard-answered heard)) (handed-out-rises u a))
+
+-- ---- over the C face
+pub parts-told : PartsTold
+parts-told κ a r e p =
+    let w = worldSaid (a .0) (now (a .1 .0)) (now (a .1 .1 .0)) in
+    let f = a .1 .1 .1 .0 in
+    let within = part-within w f in
+    let lent : partTold w f .number ≡ 0 → LentAsTold w f (partTold w f) = λ zero.
+    (part-is-lent w f zero .0, part-is-lent w f zero .1 .0, part-is-lent w f zero .1 .1) in
+    subst
+    (λ (t : CPart).
+    (t .params ≤ t .results) × (t .offset + t .results ≤ length (now (a .1 .1 .0))) × (t .number ≡ 0 → LentAsTold w f t))
+    (sym p)
+    (within .0, within .1, lent)

@@ -1,21 +1,30 @@
--- Demand 1, over the C face: a refusal hands the state back number for number.
+-- Demand 1, over the C face: 10 for numbers that say no request; and a refusal hands the state back number for number, with both buffers as they were.
+--     NumbersAsked         10 exactly where the kind is none of the nine
 --     StatesAsTheyCame     of a request, and of a register sync, that is refused
---     RunsAsTheyCame       of a trace of which no record is accepted, with both buffers; what the trace has left as it was comes back so too
+--     RunsAsTheyCame       of a trace of which no record is accepted
 use mathlib.Core.Path.{_≡_}
 use mathlib.Core.Bool.{false}
+use mathlib.Core.Logic.{_↔_}
 use Prim.Native.Nat.{_≤_}
 use denote.Ref.{now}
+use Rattle.request.specs.declared.Decoded.the-variants.{Bad}
 use Rattle.request.specs.Entries.{entriesIn}
 use Rattle.station.specs.declared.answers.CAnswer.{CAnswer}
 use Rattle.station.specs.declared.traces.CRun.{CRun}
+use Rattle.station.specs.Requests.{requestFrom}
 use Rattle.station.specs.Runs.{runningFrom, anyAccepted}
 use Rattle.station.proofs.cattlecleat_ask.Reads as c-ask
 use Rattle.station.proofs.cattlecleat_sync_registers.Reads as c-sync-registers
 use Rattle.station.proofs.cattlecleat_replay.Reads as c-replay
 
+abbrev pub NumbersAsked : Type 0
+NumbersAsked = (κ : _) (a : _) (r : CAnswer) (e : _) → c-ask.Post κ a r e → r .number ≡ 10 ↔ requestFrom (a .1 .1 .1 .0) ≡ Bad
+
+-- a register sync is lent both buffers to read
 abbrev pub StatesAsTheyCame : Type 0
 StatesAsTheyCame =
-    ((κ : _) (a : _) (r : CAnswer) (e : _) → c-ask.Post κ a r e → 2 ≤ r .number → r .state ≡ a .0)
+    ((κ : _) (a : _) (r : CAnswer) (e : _) → c-ask.Post κ a r e → 2 ≤ r .number
+    → (r .state ≡ a .0) × (now (e .1 .0) ≡ now (a .1 .0)) × (now (e .1 .1 .0) ≡ now (a .1 .1 .0)))
     × ((κ : _) (a : _) (r : CAnswer) (e : _) → c-sync-registers.Post κ a r e → 2 ≤ r .number → r .state ≡ a .0)
 
 abbrev pub RunsAsTheyCame : Type 0

@@ -6,17 +6,19 @@
 --     Demand3     a caller's frame and a current instance; a call is accepted; any requests follow that never take the depth below the callee's; a
 --                 return ends it. Then the caller is as it was
 use Rattle.demands.specs.Answers.{RequestsRefused, RequestsFollow, HistoriesFollow}
-use Rattle.demands.specs.AsTheyCame.{StatesAsTheyCame, RunsAsTheyCame}
+use Rattle.demands.specs.AsTheyCame.{NumbersAsked, StatesAsTheyCame, RunsAsTheyCame}
 use Rattle.demands.specs.Openings.{OpeningsAnswered}
 use Rattle.demands.specs.Leaves.{SlotsFilled, SlotsTaken, AddressesAligned}
 use Rattle.demands.specs.Records.{RecordsRead, RecordsWritten, RequestsDecoded, RequestsWalked, RecordsReadBack, NumbersReadBack}
 use Rattle.demands.specs.Registers.{RegistersBack, RegistersRead}
+use Rattle.demands.specs.Parts.{PartsInside, RoutineInside, PartsTold}
 use Rattle.demands.specs.Returned.{CallsReturn, CallsInTraces}
 
 abbrev pub Demand1 : Type 0
 Demand1 =
-    -- 2 to 9 and 11
+    -- 2 to 9 and 11; and 10, of numbers over the C face
     RequestsRefused
+    × NumbersAsked
     × StatesAsTheyCame
     × RunsAsTheyCame
     -- 14
@@ -41,8 +43,12 @@ Demand2 =
     × NumbersReadBack
     × RegistersBack
     × RegistersRead
+    × PartsTold
 
 abbrev pub Demand3 : Type 0
 Demand3 =
     CallsReturn
     × CallsInTraces
+    -- what hosts write through the parts that they are lent lies there
+    × PartsInside
+    × RoutineInside

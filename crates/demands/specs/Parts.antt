@@ -2,18 +2,23 @@
 -- before handed out keeps to its part.
 --     PartsInside               whatever is written through the part that `host_results` hands out
 --     RoutineInside             and whatever the routine of `call_host` writes, called with a frame that a function handed out
+--     PartsTold                 a part told over the C face lies within the cells; accepted, it is the part that the host is lent
 use mathlib.Core.Path.{_≡_}
 use mathlib.Core.List.{List}
-use Prim.Native.Nat.{ℕ, _≤_, _<_}
+use Prim.Native.Nat.{ℕ, _+_, _≤_, _<_}
 use lib.ListN.{length}
 use denote.Ref.{ptr, now}
-use Rattle.cells.specs.Host.{cellPlace}
+use Rattle.cells.specs.Host.{hostSize, cellPlace}
+use Rattle.cells.specs.declared.host.HostFrame.{HostFrame}
 use Rattle.rules.specs.declared.Asked.{Asked}
 use Rattle.rules.specs.World.{World}
 use Rattle.rules.specs.Answers.{After}
+use Rattle.rules.specs.Hosts.{partCells, partPlace}
 use Rattle.rules.specs.Returning.{Inside}
 use Rattle.stack_hosts.proofs.host_results.Reads as host-results
-use Rattle.demands.specs.Heard.{Heard, routineWrites}
+use Rattle.station.specs.declared.parts.CPart.{CPart}
+use Rattle.station.proofs.cattlecleat_host_part.Reads as c-host-part
+use Rattle.demands.specs.Heard.{worldSaid, Heard, routineWrites}
 
 -- a is what it was called with: the state, the words, the cells and the host's frame; r is the part. The part begins at the frame's start, and whatever
 -- fits into it lies inside the frame
@@ -31,3 +36,17 @@ RoutineInside =
     (u : World) (a : Asked) (t : After) → Heard u a t
     → (w : World)
     → Inside (t .shown .values .host .start) (routineWrites w (t .shown .values .host)) (t .shown .values .host)
+
+-- of the world w that the numbers say, and the host's frame f
+abbrev pub LentAsTold : World → HostFrame → CPart → Type 0
+LentAsTold w f r =
+    (r .params ≡ length (partCells w f (f .params)))
+    × (r .results ≡ length (partCells w f (hostSize (f .params) (f .results))))
+    × (0 < r .results → r .offset ≡ partPlace w f)
+
+abbrev pub PartsTold : Type 0
+PartsTold =
+    (κ : _) (a : _) (r : CPart) (e : _) → c-host-part.Post κ a r e
+    → (r .params ≤ r .results)
+    × (r .offset + r .results ≤ length (now (a .1 .1 .0)))
+    × (r .number ≡ 0 → LentAsTold (worldSaid (a .0) (now (a .1 .0)) (now (a .1 .1 .0))) (a .1 .1 .1 .0) r)

@@ -34,23 +34,23 @@ use Rattle.demands.specs.AsTheyCame.{NumbersAsked, StatesAsTheyCame, Run
 
 -- ---- 10
 
-none-left : {n : ℕ} → FirstIs [] n → ⊥
-none-left = elim [ ]
+no-test-left : {n : ℕ} → FirstIs [] n → ⊥
+no-test-left = elim [ ]
 
 -- it stands in no list
 no-ten : (w : World) (a : Asked) → FirstIs (testsOf w a) 10 → ⊥
 unfolding pushTests popTests replaceTests hostTests returnHostTests syncTests restoreTests resetTests setTests registerTests partTests
-no-ten w (Traced (Push q)) (there a (there b (there c (there d (there e (there f (there g (there h p)))))))) = none-left p
-no-ten w (Traced (Pop instance)) (there a (there b p)) = none-left p
-no-ten w (Traced (Replace q)) (there a (there b (there c (there d (there e (there f p)))))) = none-left p
-no-ten w (Traced (Host q)) (there a (there b (there c (there d p)))) = none-left p
-no-ten w (Traced (ReturnHost q)) (there a (there b (there c (there d (there e p))))) = none-left p
-no-ten w (Traced (Sync ip)) (there a (there b p)) = none-left p
-no-ten w (Traced Restore) (there a (there b (there c p))) = none-left p
-no-ten w (Traced Reset) (there a p) = none-left p
-no-ten w (Traced (Set head cell)) (there a (there b (there c p))) = none-left p
-no-ten w (SyncRegs regs) (there a p) = none-left p
-no-ten w (HostPart frame) (there a (there b p)) = none-left p
+no-ten w (Traced (Push q)) (there a (there b (there c (there d (there e (there f (there g (there h p)))))))) = no-test-left p
+no-ten w (Traced (Pop instance)) (there a (there b p)) = no-test-left p
+no-ten w (Traced (Replace q)) (there a (there b (there c (there d (there e (there f p)))))) = no-test-left p
+no-ten w (Traced (Host q)) (there a (there b (there c (there d p)))) = no-test-left p
+no-ten w (Traced (ReturnHost q)) (there a (there b (there c (there d (there e p))))) = no-test-left p
+no-ten w (Traced (Sync ip)) (there a (there b p)) = no-test-left p
+no-ten w (Traced Restore) (there a (there b (there c p))) = no-test-left p
+no-ten w (Traced Reset) (there a p) = no-test-left p
+no-ten w (Traced (Set head cell)) (there a (there b (there c p))) = no-test-left p
+no-ten w (SyncRegs regs) (there a p) = no-test-left p
+no-ten w (HostPart frame) (there a (there b p)) = no-test-left p
 
 ten-said : (w : World) (d : Decoded) → answerTo w d .shown .number ≡ 10 ↔ d ≡ Bad
 ten-said w (Asks q) = (λ e. absurd (no-ten w (Traced q) (exactly-then w (Traced q) 10 (lit≤ tt) .0 e)), λ e. ap (λ d. answerTo w d .shown .number) e)

@@ -1,31 +1,32 @@
--- What is assumed of a link can be met: a host that holds any numbers as its state, any words and any cells, and asks for any request, has a link by
--- `cattlecleat_ask`; any trace has one by `cattlecleat_replay`.
-use mathlib.Core.Path.{_≡_}
+-- What is assumed of hosts can be met, so that no statement is empty: in any world anything can be asked over the C face, and any events are a history there.
+--     EveryAsked       whatever is asked of any world is heard, by a function over the C face
+--     EveryHistory     and so any events one after another, as deep as they are
+--     EveryTrace       and any trace, by `cattlecleat_replay`
 use mathlib.Core.List.{List}
 use Prim.Native.Nat.{ℕ}
 use contract.Lifetimes.{Lfts}
-use Rattle.rules.specs.declared.Request.{Request}
-use Rattle.rules.specs.declared.Asked.the-variants.{Traced}
+use Rattle.rules.specs.declared.Asked.{Asked}
+use Rattle.rules.specs.World.{World}
 use Rattle.rules.specs.Rules.{answered}
-use Rattle.request.specs.declared.Decoded.the-variants.{Asks}
+use Rattle.rules.specs.Events.{Event, ranThrough}
+use Rattle.rules.specs.Returning.{NeverBelow}
 use Rattle.request.specs.Entries.{entriesIn}
 use Rattle.replay.specs.Running.{replayed}
 use Rattle.replay.specs.Resumed.{DepthKept}
-use Rattle.station.specs.declared.state.CState.{CState}
-use Rattle.station.specs.declared.requests.CRequest.{CRequest}
 use Rattle.station.specs.declared.traces.CRun.{CRun}
-use Rattle.station.specs.Requests.{requestFrom}
 use Rattle.station.specs.Runs.{runningFrom}
 use Rattle.demands.specs.Heard.{worldSaid, Heard}
-use Rattle.demands.specs.Links.{eventsRan, Link}
+use Rattle.demands.specs.Links.{eventsRan, Link, History}
 
-abbrev pub AskedByAny : Type 0
-AskedByAny =
-    (κ : Lfts 2) (s : CState) (words cells : List ℕ) (q : CRequest) (r : Request) → requestFrom q ≡ Asks r
-    → Heard (worldSaid s words cells) (Traced r) (answered (worldSaid s words cells) (Traced r))
+-- κ and ι are the lifetimes of what is lent: two buffers, or a record of registers
+abbrev pub EveryAsked : Type 0
+EveryAsked = (κ : Lfts 2) (w : World) (a : Asked) → Heard w a (answered w a)
 
-abbrev pub ReplayedByAny : Type 0
-ReplayedByAny =
+abbrev pub EveryHistory : Type 0
+EveryHistory = (κ : Lfts 2) (ι : Lfts 1) (d : ℕ) (w : World) (es : List Event) → NeverBelow d w es → History d w es (ranThrough w es)
+
+abbrev pub EveryTrace : Type 0
+EveryTrace =
     (κ : Lfts 3) (d : ℕ) (run : CRun) (words cells bytes : List ℕ) → DepthKept d (runningFrom run words cells) (entriesIn bytes)
     → Link d (worldSaid (run .state) words cells) (eventsRan (runningFrom run words cells) (entriesIn bytes))
     (replayed (runningFrom run words cells) bytes .world)

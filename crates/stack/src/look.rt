@@ -1,5 +1,9 @@
 // What requests look at before they do anything: number 9, of the state and of the frames that are read, and the newest frame's start.
 ghost use mathlib.Core.Path.{_≡_};
+ghost use mathlib.Core.Bool.{_&&_};
+ghost use Prim.Native.Nat.{_+_, _-_};
+ghost use lib.Dec.{ltb};
+ghost use Rattle.frames.specs.Rows.{rowAt, brokenRow};
 ghost use Rattle.rules.specs.World.{worldOf, fromTop, newestStart};
 ghost use Rattle.rules.specs.Broken.{brokenState, brokenTop, brokenNext};
 use frames::is_broken;
@@ -19,7 +23,8 @@ pub fn from_top(count: usize, k: usize) -> usize
     if count < k { 0 } else { count - k }
 }
 
-// Whether the state is broken (9): a limit, a length, or what it says of the lent buffers.
+// Whether the state is broken (9): a limit, a length, or what it says of the lent buffers. Where the lengths agree, those of the buffers stand for the
+// state's own: behind this test the compiler then knows that the rows are there, and leaves out what `frames` tests.
 pub fn is_broken_state(s: State, words: &[u64], cells: &[u64]) -> bool
     ensures { λ r. ⌜ r ≡ brokenState (worldOf s (now (words .entry)) (now (cells .entry))) ⌝ }
 {
@@ -29,25 +34,26 @@ pub fn is_broken_state(s: State, words: &[u64], cells: &[u64]) -> bool
     let own_cells = s.cells;
     let count = s.count;
     let len = s.len;
-    let few = too_few_words(own_words, depth);
+    let few = too_few_words(words.len(), depth);
     (words.len() != own_words)
         | ((cells.len() != own_cells)
             | ((MAX_DEPTH < depth)
                 | ((MAX_CELLS < height)
-                    | ((MAX_CELLS < own_cells)
-                        | (few | ((depth < count) | ((own_cells < len) | (height < len))))))))
+                    | ((MAX_CELLS < cells.len())
+                        | (few | ((depth < count) | ((cells.len() < len) | (height < len))))))))
 }
 
-// Whether the state or the newest frame is broken (9).
+// Whether the state or the newest frame is broken (9). The row is read behind the test of the state, not beside it, for the same reason.
 pub fn is_broken_top(s: State, words: &[u64], cells: &[u64]) -> bool
     ensures { λ r. ⌜ r ≡ brokenTop (worldOf s (now (words .entry)) (now (cells .entry))) ⌝ }
 {
     let depth = s.depth;
     let count = s.count;
     let len = s.len;
-    let state = is_broken_state(s, words, cells);
-    let top = is_broken(read_row(words, depth, from_top(count, 1)), len);
-    state | ((0 < count) & top)
+    if is_broken_state(s, words, cells) {
+        return true;
+    }
+    is_broken_at(words, depth, count, 0, len)
 }
 
 // Whether the state, the newest frame or the next one is broken (9).
@@ -57,9 +63,23 @@ pub fn is_broken_next(s: State, words: &[u64], cells: &[u64]) -> bool
     let depth = s.depth;
     let count = s.count;
     let len = s.len;
-    let top = is_broken_top(s, words, cells);
-    let next = is_broken(read_row(words, depth, from_top(count, 2)), len);
-    top | ((1 < count) & next)
+    if is_broken_state(s, words, cells) {
+        return true;
+    }
+    if is_broken_at(words, depth, count, 1, len) {
+        return true;
+    }
+    is_broken_at(words, depth, count, 0, len)
+}
+
+// Whether there is a frame with so many above it, and its row is broken.
+fn is_broken_at(words: &[u64], depth: usize, count: usize, above: usize, len: usize) -> bool
+    ensures { λ r. ⌜ r ≡ (ltb above count && brokenRow (rowAt depth (now (words .entry)) (count - (above + 1))) len) ⌝ }
+{
+    if count <= above {
+        return false;
+    }
+    is_broken(read_row(words, depth, count - above - 1), len)
 }
 
 // The start of the newest of `count` frames, 0 without frames.

@@ -4,5 +4,7 @@ pub mod Spent
 pub mod Resumed
 pub mod Pinned
 pub mod Packing
+pub mod Arms
+pub mod ByKind
 pub mod Turns
 pub mod Settled

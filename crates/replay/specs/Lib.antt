@@ -6,3 +6,4 @@ pub mod Resumed
 pub mod Pinned
 pub mod Turns
 pub mod Packing
+pub mod ByKind

@@ -1,27 +1,30 @@
-// One record of a replay. The run goes in by value and comes back: acceptance is decided first, then the fuel, and only then is anything written.
+// A replay in its course, by value, and one record of it that was decoded before.
 ghost use mathlib.Core.Path.{_≡_};
-ghost use Prim.Native.Nat.{_+_, _-_};
-ghost use Rattle.rules.specs.World.{worldOf};
-ghost use Rattle.rules.specs.declared.Asked.the-variants.{Traced};
-ghost use Rattle.rules.specs.Answers.{refusedWith};
-ghost use Rattle.rules.specs.Rules.{effectIn};
-ghost use Rattle.request.specs.declared.Decoded.the-variants.{Asks, Bad};
-ghost use Rattle.replay.specs.Costs.{workOf};
-ghost use Rattle.replay.specs.Running.{runningOf, startedRun, runStopped, runMoved, ranBy, shownRan, ranAt, ranOn, ran};
-use crate::cost::cost_of;
-use ask::judge;
-use ask::step;
+ghost use Rattle.request.specs.declared.Decoded.the-variants.{Asks};
+ghost use Rattle.replay.specs.Packing.{runAgain, ranAgain};
+ghost use Rattle.replay.specs.Running.{runningOf, startedRun, ranBy, shownRan, ranOn, ran};
+use crate::calls::run_pop;
+use crate::calls::run_push;
+use crate::calls::run_replace;
+use crate::flat::Fixed;
+use crate::flat::Moving;
+use crate::flat::Went;
+use crate::flat::fixed_in;
+use crate::flat::moving_in;
+use crate::flat::ran_again;
+use crate::flat::refused_at;
+use crate::hosts::run_host;
+use crate::hosts::run_return_host;
+use crate::simple::run_reset;
+use crate::simple::run_restore;
+use crate::simple::run_set;
+use crate::simple::run_sync;
 use given::Given;
 use given::is_given;
 use record::BAD_RECORD;
 use request::Decoded;
-use rules::Judgement;
 use rules::Request;
-use rules::Room;
 use rules::State;
-use stack::answer_number;
-use stack::answer_offset;
-use stack::refusal_number;
 
 // A replay in its course: the stack's state, the number of the next record, the fuel given and what is spent of it; and the cost of the record
 // that it stopped before, where it has stopped.
@@ -57,93 +60,12 @@ pub fn start(state: State, fuel: u64) -> Run
 pub fn run_record(run: Run, words: &mut [u64], cells: &mut [u64], entry: Decoded) -> Ran
     ensures { λ r. ⌜ shownRan r (now (words .exit)) (now (cells .exit)) ≡ ran (runningOf run (now (words .entry)) (now (cells .entry))) entry ⌝ }
 {
-    match entry {
-        Decoded::Asks(q) => run_asked(run, words, cells, q),
-        Decoded::Bad => run_bad(run, words, cells),
-    }
-}
-
-// A record that reads badly.
-pub(crate) fn run_bad(run: Run, words: &[u64], cells: &[u64]) -> Ran
-    ensures { λ r. ⌜ shownRan r (now (words .entry)) (now (cells .entry)) ≡ ran (runningOf run (now (words .entry)) (now (cells .entry))) Bad ⌝ }
-{
     let stop = run.stop;
     if is_given(stop) {
         return nothing_ran(run);
     }
-    refused_at(run, words, cells, BAD_RECORD)
-}
-
-// A record that asks for something.
-pub(crate) fn run_asked(run: Run, words: &mut [u64], cells: &mut [u64], q: Request) -> Ran
-    ensures { λ r. ⌜ shownRan r (now (words .exit)) (now (cells .exit)) ≡ ran (runningOf run (now (words .entry)) (now (cells .entry))) (Asks q) ⌝ }
-{
-    let stop = run.stop;
-    if is_given(stop) {
-        return nothing_ran(run);
-    }
-    run_request(run, words, cells, q)
-}
-
-// Acceptance is decided first: the cost depends on it.
-fn run_request(run: Run, words: &mut [u64], cells: &mut [u64], q: Request) -> Ran
-    ensures { λ r. ⌜ shownRan r (now (words .exit)) (now (cells .exit))
-        ≡ ranOn (runningOf run (now (words .entry)) (now (cells .entry))) (Asks q) ⌝ }
-{
-    let s = run.state;
-    match judge(s, words, cells, q) {
-        Judgement::Refuse(why) => refused_at(run, words, cells, refusal_number(why)),
-        Judgement::Accept(room) => run_in(run, words, cells, q, room),
-    }
-}
-
-// A refused record costs 1.
-fn refused_at(run: Run, words: &[u64], cells: &[u64], number: u64) -> Ran
-    ensures { λ r. ⌜ shownRan r (now (words .entry)) (now (cells .entry))
-        ≡ ranAt (runningOf run (now (words .entry)) (now (cells .entry))) (refusedWith (worldOf (run .state) (now (words .entry)) (now (cells .entry))) number) 1 ⌝ }
-{
-    let fuel = run.fuel;
-    let spent = run.spent;
-    let state = run.state;
-    if left_of(fuel, spent) < 1 {
-        return stopped_before(run, 1);
-    }
-    went_on(run, state, spent + 1, number, 0)
-}
-
-// An accepted record: the fuel is tested, and only then is anything written.
-fn run_in(run: Run, words: &mut [u64], cells: &mut [u64], q: Request, room: Room) -> Ran
-    ensures { λ r. ⌜ shownRan r (now (words .exit)) (now (cells .exit))
-        ≡ ranAt (runningOf run (now (words .entry)) (now (cells .entry)))
-        (effectIn (worldOf (run .state) (now (words .entry)) (now (cells .entry))) (Traced q) room) (1 + workOf q) ⌝ }
-{
-    let fuel = run.fuel;
-    let spent = run.spent;
-    let state = run.state;
-    let cost = cost_of(q);
-    if left_of(fuel, spent) < cost {
-        return stopped_before(run, cost);
-    }
-    let total = spent + cost;
-    let out = step(state, words, cells, q, room);
-    let answer = out.answer;
-    went_on(
-        run,
-        out.state,
-        total,
-        answer_number(answer),
-        answer_offset(answer),
-    )
-}
-
-// The fuel not spent.
-fn left_of(fuel: u64, spent: u64) -> u64
-    ensures { λ r. ⌜ r ≡ fuel - spent ⌝ }
-{
-    if fuel < spent {
-        return 0;
-    }
-    fuel - spent
+    let f = fixed_in(run);
+    ran_again(f, run_entry(f, moving_in(run), words, cells, entry))
 }
 
 pub(crate) fn nothing_ran(run: Run) -> Ran
@@ -156,28 +78,29 @@ pub(crate) fn nothing_ran(run: Run) -> Ran
     }
 }
 
-fn stopped_before(run: Run, cost: u64) -> Ran
-    ensures { λ r. ⌜ r ≡ ranBy (runStopped run cost) 0 0 ⌝ }
+fn run_entry(f: Fixed, m: Moving, words: &mut [u64], cells: &mut [u64], entry: Decoded) -> Went
+    ensures { λ r. ⌜ shownRan (ranAgain f r) (now (words .exit)) (now (cells .exit))
+        ≡ ranOn (runningOf (runAgain f m) (now (words .entry)) (now (cells .entry))) entry ⌝ }
 {
-    nothing_ran(Run {
-        stop: Given::Value(cost),
-        ..run
-    })
+    match entry {
+        Decoded::Asks(q) => run_request(f, m, words, cells, q),
+        Decoded::Bad => refused_at(f, m, BAD_RECORD),
+    }
 }
 
-// The run after a record, with so much spent in all. Records are numbered in a u64, which wraps.
-fn went_on(run: Run, state: State, spent: u64, answer: u64, offset: usize) -> Ran
-    ensures { λ r. ⌜ r ≡ ranBy (runMoved run state spent) answer offset ⌝ }
+fn run_request(f: Fixed, m: Moving, words: &mut [u64], cells: &mut [u64], q: Request) -> Went
+    ensures { λ r. ⌜ shownRan (ranAgain f r) (now (words .exit)) (now (cells .exit))
+        ≡ ranOn (runningOf (runAgain f m) (now (words .entry)) (now (cells .entry))) (Asks q) ⌝ }
 {
-    let moved = Run {
-        state,
-        number: std::num::wrapping_add_u64(run.number, 1),
-        spent,
-        ..run
-    };
-    Ran {
-        run: moved,
-        answer,
-        offset: offset as u64,
+    match q {
+        Request::Push(args) => run_push(f, m, words, cells, args),
+        Request::Pop(instance) => run_pop(f, m, words, cells, instance),
+        Request::Replace(args) => run_replace(f, m, words, cells, args),
+        Request::Host(args) => run_host(f, m, words, cells, args),
+        Request::ReturnHost(args) => run_return_host(f, m, words, cells, args),
+        Request::Sync(ip) => run_sync(f, m, words, cells, ip),
+        Request::Restore => run_restore(f, m, words, cells),
+        Request::Reset => run_reset(f, m, words, cells),
+        Request::Set(head, cell) => run_set(f, m, words, cells, head, cell),
     }
 }

@@ -35,7 +35,7 @@ pub(crate) fn request_in(r: Record) -> Request
     }
 }
 
-fn push_in(r: Record) -> PushArgs
+pub fn push_in(r: Record) -> PushArgs
     ensures { λ q. ⌜ q ≡ pushIn r ⌝ }
 {
     PushArgs {
@@ -49,7 +49,7 @@ fn push_in(r: Record) -> PushArgs
     }
 }
 
-fn replace_in(r: Record) -> ReplaceArgs
+pub fn replace_in(r: Record) -> ReplaceArgs
     ensures { λ q. ⌜ q ≡ replaceIn r ⌝ }
 {
     ReplaceArgs {
@@ -62,7 +62,7 @@ fn replace_in(r: Record) -> ReplaceArgs
     }
 }
 
-fn host_in(r: Record) -> HostArgs
+pub fn host_in(r: Record) -> HostArgs
     ensures { λ q. ⌜ q ≡ hostIn r ⌝ }
 {
     HostArgs {
@@ -73,7 +73,7 @@ fn host_in(r: Record) -> HostArgs
     }
 }
 
-fn return_host_in(r: Record) -> ReturnHostArgs
+pub fn return_host_in(r: Record) -> ReturnHostArgs
     ensures { λ q. ⌜ q ≡ returnHostIn r ⌝ }
 {
     ReturnHostArgs {

@@ -2,7 +2,11 @@
 mod decode;
 mod encode;
 
+pub use decode::host_in;
+pub use decode::push_in;
+pub use decode::replace_in;
 use decode::request_in;
+pub use decode::return_host_in;
 pub use encode::record_of;
 use record::RECORD_SIZE;
 use record::Read;

@@ -1,6 +1,5 @@
--- `ask::ask` meets its contract: a refusal, or the step in the room that was judged. Assumes nothing.
+-- `ask::ask` meets its contract: in each arm the request is known. Assumes nothing.
 use borrow.Author.Needs.{needs}
-use Rattle.rules.proofs.Judgements.{refused-answer, accepted-answer}
 use Rattle.ask.proofs.ask.Statement.{statement}
 use Rattle.ask.proofs.ask.Tie as tie
 
@@ -8,17 +7,48 @@ pub ask-spec : {M : Type 1} → statement M
 ask-spec =
     tie.close
     (tie.spec
+    (λ c. search needs)
+    (λ c κs. search needs)
+    (λ c. search needs)
+    (λ c κs. search needs)
+    (λ c. search needs)
     (λ c κs. search needs)
     (λ c. search needs)
     (λ c κs. search needs)
     (λ c. search needs)
     (λ c κs. search needs)
     (λ c. search needs)
+    (λ c κs. search needs)
     (λ c. search needs)
-    (λ c. refused-answer _ _ _ (c .before .before .before .before .judge .ensures) _ _ (c .before .before .why .given .1) (c .refused .ensures))
+    (λ c κs. search needs)
+    (λ c. search needs)
+    (λ c κs. search needs)
+    (λ c. search needs)
+    (λ c κs. search needs)
     (λ c. search needs)
     (λ c. search needs)
-    (λ c.
-    let after-step = c .before .before .before .before in
-    let after-room = after-step .before .before .before .before in
-    accepted-answer _ _ _ (after-room .before .before .judge .ensures) _ _ (after-room .room .given .1) (after-step .step .ensures)))
+    (λ c. rw (c .before .before .before .before .before .before .before .before .q .given .1) (c .before .before .before .before .push-frame .ensures))
+    (λ c. search needs)
+    (λ c. search needs)
+    (λ c. rw (c .before .before .before .before .q2 .given .1) (c .pop-frame .ensures))
+    (λ c. search needs)
+    (λ c. search needs)
+    (λ c. rw (c .before .before .before .before .before .before .before .before .q3 .given .1) (c .before .before .before .before .replace-frame .ensures))
+    (λ c. search needs)
+    (λ c. search needs)
+    (λ c. rw (c .before .before .before .before .before .before .before .before .q4 .given .1) (c .before .before .before .before .prepare-host-frame .ensures))
+    (λ c. search needs)
+    (λ c. search needs)
+    (λ c. rw (c .before .before .before .before .before .before .q5 .given .1) (c .before .before .return-prepare-host-frame .ensures))
+    (λ c. search needs)
+    (λ c. search needs)
+    (λ c. rw (c .before .before .before .before .before .before .q6 .given .1) (c .before .before .sync-ip .ensures))
+    (λ c. search needs)
+    (λ c. search needs)
+    (λ c. rw (c .before .before .before .enum-told .given .1) (c .restore-frame .ensures))
+    (λ c. search needs)
+    (λ c. search needs)
+    (λ c. rw (c .before .before .before .enum-told2 .given .1) (c .reset .ensures))
+    (λ c. search needs)
+    (λ c. search needs)
+    (λ c. rw (c .before .before .before .before .before .before .q7 .given .1) (c .before .before .set .ensures)))

@@ -1,38 +1,55 @@
--- `replay::trace::run_next` meets its contract: in each arm what the decoder answered is known. Assumes nothing.
-use borrow.Author.Needs.{needs}
+-- `replay::trace::run_next` meets its contract: the end, a run that has stopped, or the record at the place. Assumes nothing.
 use mathlib.Core.Path.{sym, ap, _∙_}
+use native.Mathlib.Omega.{arith}
+use borrow.Author.Needs.{needs}
 use denote.Ref.{now}
-use Rattle.request.specs.Walk.{shownNext}
-use Rattle.replay.specs.Running.{shownRan}
+use Rattle.replay.specs.declared.run.Ran.{Ran}
+use Rattle.replay.specs.Running.{runningOf, shownRan}
 use Rattle.replay.specs.Turns.{turnOf}
-use Rattle.replay.proofs.Turns.{turn-asks, turn-bad, turn-none}
+use Rattle.replay.proofs.Records.{ran-ended}
+use Rattle.replay.proofs.Packing.{parts-ran}
+use Rattle.replay.proofs.Turns.{turn-end, turn-runs}
 use Rattle.replay.proofs.trace.run_next.Statement.{statement}
 use Rattle.replay.proofs.trace.run_next.Tie as tie
+
+returns : tie.Need-returns
+returns c =
+    let a = c .before .before .before .before .before .args in
+    ap (λ (x : Ran). turnOf (shownRan x (now (a .words)) (now (a .cells))) (a .at)) (c .nothing-ran .ensures) ∙ turn-end _ (now (a .bytes)) (a .at) (c .before .if1 .taken)
+
+returns-2 : tie.Need-returns-2
+returns-2 c =
+    let place = c .before .before .before in
+    let a = place .before .before .before .before .before .args in
+    turn-runs (runningOf (a .run) (now (a .words)) (now (a .cells))) (now (a .bytes)) (a .at) (omega arith) _ (place .place-after .ensures) _
+    (ap (λ (x : Ran). shownRan x (now (a .words)) (now (a .cells))) (c .nothing-ran2 .ensures) ∙ ran-ended _ _ (sym (c .before .before .is-given .ensures) ∙ c .before .if2 .taken))
+
+returns-3 : tie.Need-returns-3
+returns-3 c =
+    let turned = c .before .before .before .before .before in
+    let moving = turned .before .before .before in
+    let fixed = moving .before in
+    let else = fixed .before in
+    let place = else .before .before in
+    let a = place .before .before .before .before .before .args in
+    turn-runs (runningOf (a .run) (now (a .words)) (now (a .cells))) (now (a .bytes)) (a .at) (omega arith) _ (place .place-after .ensures) _
+    (parts-ran (a .run) (sym (else .before .is-given .ensures) ∙ else .if2 .left) _ (fixed .fixed-in .ensures) _ (moving .moving-in .ensures) _ _ _ (turned .turn .result) _ _
+    (turned .turn .ensures) _ (c .ran-again .ensures))
 
 pub run-next-spec : {M : Type 1} → statement M
 run-next-spec =
     tie.close
     (tie.spec
     (λ c κs. search needs)
-    (λ c. search needs)
+    returns
+    (λ c κs. search needs)
+    (λ c κs. search needs)
+    (λ c κs. search needs)
+    returns-2
+    (λ c κs. search needs)
+    (λ c κs. search needs)
+    (λ c κs. search needs)
     (λ c κs. search needs)
     (λ c. search needs)
-    (λ c κs. search needs)
     (λ c. search needs)
-    (λ c κs. search needs)
-    (λ c. search needs)
-    (λ c. search needs)
-    (λ c.
-    let after-q = c .before .before .before .before .before .before .before .before in
-    c .before .before .before .before .asked-turn .ensures
-    ∙ turn-asks _ _ _ _ _ (sym (ap shownNext (after-q .q .given .1)) ∙ after-q .before .before .next-request .ensures))
-    (λ c. search needs)
-    (λ c. search needs)
-    (λ c.
-    let after-bad = c .before .before .before .before in
-    turn-bad _ _ _ _ (sym (ap shownNext (after-bad .next .given .1)) ∙ after-bad .before .before .next-request .ensures) _ (c .run-bad .ensures))
-    (λ c.
-    let after-next = c .before .before .before in
-    let args = after-next .before .before .before .before .args in
-    ap (λ x. turnOf (shownRan x (now (args .words)) (now (args .cells))) (args .at)) (c .nothing-ran .ensures)
-    ∙ turn-none _ _ _ (sym (ap shownNext (c .before .enum-told .given .1)) ∙ after-next .next-request .ensures)))
+    returns-3)

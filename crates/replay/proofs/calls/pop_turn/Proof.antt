@@ -1,0 +1,34 @@
+-- `replay::calls::pop_turn` meets its contract: the record breaks its kind's row, or says its request. Assumes nothing.
+use mathlib.Core.Path.{_≡_, ap, _∙_}
+use borrow.Author.Needs.{needs}
+use borrow.Author.Tests.{not-true, not-false}
+use Rattle.replay.specs.Running.{ranOn}
+use Rattle.replay.proofs.Arms.{arm-bad}
+use Rattle.replay.proofs.ByKind.{broken-says, kept-says, says-pop}
+use Rattle.replay.proofs.calls.pop_turn.Statement.{statement}
+use Rattle.replay.proofs.calls.pop_turn.Tie as tie
+
+returns : tie.Need-returns
+returns c =
+    let a = c .before .before .before .before .before .args in
+    let kind : a .r .kind ≡ 2 = search needs in
+    arm-bad (a .f) (a .m) _ _ _ (c .refused-at .ensures) ∙ ap (ranOn _) (broken-says (a .r) 2 kind _ (c .before .before .keeps-row .ensures) (not-true _ (c .before .if1 .taken)))
+
+returns-2 : tie.Need-returns-2
+returns-2 c =
+    let r = c .before .before .before .before .before .before .before .before .before .before .before .args .r in
+    let kind : r .kind ≡ 2 = search needs in
+    c .before .before .before .before .run-pop .ensures
+    ∙ ap (ranOn _) (kept-says r 2 kind _ (c .before .before .before .before .before .before .before .before .keeps-row .ensures) (not-false _ (c .before .before .before .before .before .before .before .if1 .left)) _ (says-pop r kind))
+
+pub pop-turn-spec : {M : Type 1} → statement M
+pop-turn-spec =
+    tie.close
+    (tie.spec
+    (λ c κs. search needs)
+    (λ c κs. search needs)
+    returns
+    (λ c κs. search needs)
+    (λ c. search needs)
+    (λ c. search needs)
+    returns-2)

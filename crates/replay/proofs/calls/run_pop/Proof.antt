@@ -1,0 +1,37 @@
+-- `replay::calls::run_pop` meets its contract: a judgement that refuses, or one that accepts. Assumes nothing.
+use mathlib.Core.Path.{_∙_}
+use borrow.Author.Needs.{needs}
+use Rattle.rules.specs.declared.Request.the-variants.{Pop}
+use Rattle.replay.proofs.Arms.{arm-refused, arm-accepted}
+use Rattle.replay.proofs.calls.run_pop.Statement.{statement}
+use Rattle.replay.proofs.calls.run_pop.Tie as tie
+
+returns : tie.Need-returns
+returns c =
+    let a = c .before .before .before .before .before .before .before .before .before .before .before .args in
+    arm-refused (a .f) (a .m) _ _ (Pop (a .instance)) _ (c .before .before .before .before .before .before .before .before .state-with .ensures) _ (c .before .before .before .before .before .judge-pop .ensures) _ _ (c .before .before .before .why .given .1)
+    (c .before .refusal-number .ensures) _ (c .refused-at .ensures)
+
+returns-2 : tie.Need-returns-2
+returns-2 c =
+    let a = c .before .before .before .before .before .before .before .before .before .before .before .before .before .before .before .before .args in
+    c .before .before .before .before .pop-in-room .ensures
+    ∙ arm-accepted (a .f) (a .m) _ _ (Pop (a .instance)) _ (c .before .before .before .before .before .before .before .before .before .before .before .before .before .state-with .ensures) _ (c .before .before .before .before .before .before .before .before .before .before .judge-pop .ensures) _ (c .before .before .before .before .before .before .before .before .room .given .1)
+
+pub run-pop-spec : {M : Type 1} → statement M
+run-pop-spec =
+    tie.close
+    (tie.spec
+    (λ c κs. search needs)
+    (λ c κs. search needs)
+    (λ c. search needs)
+    (λ c κs. search needs)
+    (λ c κs. search needs)
+    (λ c. search needs)
+    (λ c κs. search needs)
+    (λ c. search needs)
+    (λ c. search needs)
+    returns
+    (λ c. search needs)
+    (λ c. search needs)
+    returns-2)

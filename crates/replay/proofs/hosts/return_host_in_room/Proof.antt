@@ -1,0 +1,42 @@
+-- `replay::hosts::return_host_in_room` meets its contract: it stops before anything is written, or goes on with the step done. Assumes nothing.
+use native.Mathlib.Omega.{arith}
+use borrow.Author.Needs.{needs}
+use Rattle.rules.specs.declared.Request.the-variants.{ReturnHost}
+use Rattle.replay.proofs.Arms.{arm-stops, arm-goes}
+use Rattle.replay.proofs.hosts.return_host_in_room.Statement.{statement}
+use Rattle.replay.proofs.hosts.return_host_in_room.Tie as tie
+
+returns : tie.Need-returns
+returns c =
+    let a = c .before .before .before .before .before .before .args in
+    let cost = c .before .before .before .cost-of in
+    arm-stops (a .f) (a .m) _ _ (ReturnHost (a .q)) (a .room) _ (cost .ensures) _ (c .stopped-before .ensures) (omega arith)
+
+returns-2 : tie.Need-returns-2
+returns-2 c =
+    let a = c .before .before .before .before .before .before .before .before .before .before .before .before .before .before .args in
+    let cost = c .before .before .before .before .before .before .before .before .before .before .before .cost-of in
+    let step = c .before .before .before .before .before .step-return-host in
+    let with-state = c .before .before .before .before .before .before .before .before .state-with in
+    let left = c .before .before .before .before .before .before .before .before .before .before .left-of .ensures in
+    let enough = c .before .before .before .before .before .before .before .before .before .if1 .left in
+    arm-goes (a .f) (a .m) _ _ (ReturnHost (a .q)) (a .room) _ (cost .ensures) _ (with-state .ensures) (step .result) _ _ (step .ensures)
+    _ _ (c .before .before .answer-number .ensures) (c .before .answer-offset .ensures) _ (c .went-on .ensures) (omega (arith, left, enough))
+
+pub return-host-in-room-spec : {M : Type 1} → statement M
+return-host-in-room-spec =
+    tie.close
+    (tie.spec
+    (λ c κs. search needs)
+    (λ c κs. search needs)
+    (λ c κs. search needs)
+    returns
+    (λ c. search needs)
+    (λ c κs. search needs)
+    (λ c κs. search needs)
+    (λ c κs. search needs)
+    (λ c κs. search needs)
+    (λ c κs. search needs)
+    (λ c. search needs)
+    (λ c. search needs)
+    returns-2)

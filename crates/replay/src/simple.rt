@@ -1,0 +1,270 @@
+// Sync, restore, reset and set in a trace, as `calls.rt` has the calls.
+ghost use mathlib.Core.Path.{_≡_};
+ghost use Prim.Native.Nat.{_+_};
+ghost use Rattle.rules.specs.World.{worldOf};
+ghost use Rattle.rules.specs.declared.Request.the-variants.{Sync, Restore, Reset, Set};
+ghost use Rattle.rules.specs.declared.Asked.the-variants.{Traced};
+ghost use Rattle.rules.specs.Rules.{effectIn};
+ghost use Rattle.request.specs.declared.Decoded.the-variants.{Asks};
+ghost use Rattle.replay.specs.Costs.{workOf};
+ghost use Rattle.replay.specs.Packing.{stateWith, runAgain, ranAgain};
+ghost use Rattle.replay.specs.Running.{runningOf, shownRan, ranAt, ranOn};
+ghost use Rattle.replay.specs.ByKind.{entryFor};
+use crate::cost::cost_of;
+use crate::flat::Fixed;
+use crate::flat::Moving;
+use crate::flat::Went;
+use crate::flat::left_of;
+use crate::flat::refused_at;
+use crate::flat::state_with;
+use crate::flat::stopped_before;
+use crate::flat::went_on;
+use record::BAD_RECORD;
+use record::RESET_ROW;
+use record::RESTORE_ROW;
+use record::Record;
+use record::SET_ROW;
+use record::SYNC_ROW;
+use record::keeps_row;
+use rules::Judgement;
+use rules::Request;
+use rules::Room;
+use stack::answer_number;
+use stack::answer_offset;
+use stack::judge_reset;
+use stack::judge_restore;
+use stack::judge_set;
+use stack::judge_sync;
+use stack::refusal_number;
+use stack::step_reset;
+use stack::step_restore;
+use stack::step_set;
+use stack::step_sync;
+
+// ---- sync
+
+pub(crate) fn sync_turn(
+    f: Fixed,
+    m: Moving,
+    words: &mut [u64],
+    cells: &mut [u64],
+    r: Record,
+) -> Went
+    requires { ⌜ r .kind ≡ 6 ⌝ }
+    ensures { λ x. ⌜ shownRan (ranAgain f x) (now (words .exit)) (now (cells .exit))
+        ≡ ranOn (runningOf (runAgain f m) (now (words .entry)) (now (cells .entry))) (entryFor r) ⌝ }
+{
+    if !keeps_row(SYNC_ROW, r) {
+        return refused_at(f, m, BAD_RECORD);
+    }
+    run_sync(f, m, words, cells, r.word1)
+}
+
+pub(crate) fn run_sync(f: Fixed, m: Moving, words: &mut [u64], cells: &mut [u64], ip: u64) -> Went
+    ensures { λ r. ⌜ shownRan (ranAgain f r) (now (words .exit)) (now (cells .exit))
+        ≡ ranOn (runningOf (runAgain f m) (now (words .entry)) (now (cells .entry))) (Asks (Sync ip)) ⌝ }
+{
+    let s = state_with(f, m);
+    match judge_sync(s, words, cells) {
+        Judgement::Refuse(why) => refused_at(f, m, refusal_number(why)),
+        Judgement::Accept(room) => sync_in_room(f, m, words, cells, ip, room),
+    }
+}
+
+fn sync_in_room(
+    f: Fixed,
+    m: Moving,
+    words: &mut [u64],
+    cells: &mut [u64],
+    ip: u64,
+    room: Room,
+) -> Went
+    ensures { λ r. ⌜ shownRan (ranAgain f r) (now (words .exit)) (now (cells .exit))
+        ≡ ranAt (runningOf (runAgain f m) (now (words .entry)) (now (cells .entry)))
+        (effectIn (worldOf (stateWith f m) (now (words .entry)) (now (cells .entry))) (Traced (Sync ip)) room) (1 + workOf (Sync ip)) ⌝ }
+{
+    let spent = m.spent;
+    let cost = cost_of(Request::Sync(ip));
+    if left_of(f.fuel, spent) < cost {
+        return stopped_before(m, cost);
+    }
+    let total = spent + cost;
+    let s = state_with(f, m);
+    let out = step_sync(s, words, cells, ip, room);
+    let answer = out.answer;
+    went_on(
+        m,
+        out.state,
+        total,
+        answer_number(answer),
+        answer_offset(answer),
+    )
+}
+
+// ---- restore
+
+pub(crate) fn restore_turn(
+    f: Fixed,
+    m: Moving,
+    words: &mut [u64],
+    cells: &mut [u64],
+    r: Record,
+) -> Went
+    requires { ⌜ r .kind ≡ 7 ⌝ }
+    ensures { λ x. ⌜ shownRan (ranAgain f x) (now (words .exit)) (now (cells .exit))
+        ≡ ranOn (runningOf (runAgain f m) (now (words .entry)) (now (cells .entry))) (entryFor r) ⌝ }
+{
+    if !keeps_row(RESTORE_ROW, r) {
+        return refused_at(f, m, BAD_RECORD);
+    }
+    run_restore(f, m, words, cells)
+}
+
+pub(crate) fn run_restore(f: Fixed, m: Moving, words: &mut [u64], cells: &mut [u64]) -> Went
+    ensures { λ r. ⌜ shownRan (ranAgain f r) (now (words .exit)) (now (cells .exit))
+        ≡ ranOn (runningOf (runAgain f m) (now (words .entry)) (now (cells .entry))) (Asks Restore) ⌝ }
+{
+    let s = state_with(f, m);
+    match judge_restore(s, words, cells) {
+        Judgement::Refuse(why) => refused_at(f, m, refusal_number(why)),
+        Judgement::Accept(room) => restore_in_room(f, m, words, cells, room),
+    }
+}
+
+fn restore_in_room(f: Fixed, m: Moving, words: &mut [u64], cells: &mut [u64], room: Room) -> Went
+    ensures { λ r. ⌜ shownRan (ranAgain f r) (now (words .exit)) (now (cells .exit))
+        ≡ ranAt (runningOf (runAgain f m) (now (words .entry)) (now (cells .entry)))
+        (effectIn (worldOf (stateWith f m) (now (words .entry)) (now (cells .entry))) (Traced Restore) room) (1 + workOf Restore) ⌝ }
+{
+    let spent = m.spent;
+    let cost = cost_of(Request::Restore);
+    if left_of(f.fuel, spent) < cost {
+        return stopped_before(m, cost);
+    }
+    let total = spent + cost;
+    let s = state_with(f, m);
+    let out = step_restore(s, words, cells, room);
+    let answer = out.answer;
+    went_on(
+        m,
+        out.state,
+        total,
+        answer_number(answer),
+        answer_offset(answer),
+    )
+}
+
+// ---- reset
+
+pub(crate) fn reset_turn(
+    f: Fixed,
+    m: Moving,
+    words: &mut [u64],
+    cells: &mut [u64],
+    r: Record,
+) -> Went
+    requires { ⌜ r .kind ≡ 8 ⌝ }
+    ensures { λ x. ⌜ shownRan (ranAgain f x) (now (words .exit)) (now (cells .exit))
+        ≡ ranOn (runningOf (runAgain f m) (now (words .entry)) (now (cells .entry))) (entryFor r) ⌝ }
+{
+    if !keeps_row(RESET_ROW, r) {
+        return refused_at(f, m, BAD_RECORD);
+    }
+    run_reset(f, m, words, cells)
+}
+
+pub(crate) fn run_reset(f: Fixed, m: Moving, words: &mut [u64], cells: &mut [u64]) -> Went
+    ensures { λ r. ⌜ shownRan (ranAgain f r) (now (words .exit)) (now (cells .exit))
+        ≡ ranOn (runningOf (runAgain f m) (now (words .entry)) (now (cells .entry))) (Asks Reset) ⌝ }
+{
+    let s = state_with(f, m);
+    match judge_reset(s, words, cells) {
+        Judgement::Refuse(why) => refused_at(f, m, refusal_number(why)),
+        Judgement::Accept(room) => reset_in_room(f, m, words, cells, room),
+    }
+}
+
+fn reset_in_room(f: Fixed, m: Moving, words: &mut [u64], cells: &mut [u64], room: Room) -> Went
+    ensures { λ r. ⌜ shownRan (ranAgain f r) (now (words .exit)) (now (cells .exit))
+        ≡ ranAt (runningOf (runAgain f m) (now (words .entry)) (now (cells .entry)))
+        (effectIn (worldOf (stateWith f m) (now (words .entry)) (now (cells .entry))) (Traced Reset) room) (1 + workOf Reset) ⌝ }
+{
+    let spent = m.spent;
+    let cost = cost_of(Request::Reset);
+    if left_of(f.fuel, spent) < cost {
+        return stopped_before(m, cost);
+    }
+    let total = spent + cost;
+    let s = state_with(f, m);
+    let out = step_reset(s, words, cells);
+    let answer = out.answer;
+    went_on(
+        m,
+        out.state,
+        total,
+        answer_number(answer),
+        answer_offset(answer),
+    )
+}
+
+// ---- set
+
+pub(crate) fn set_turn(f: Fixed, m: Moving, words: &mut [u64], cells: &mut [u64], r: Record) -> Went
+    requires { ⌜ r .kind ≡ 9 ⌝ }
+    ensures { λ x. ⌜ shownRan (ranAgain f x) (now (words .exit)) (now (cells .exit))
+        ≡ ranOn (runningOf (runAgain f m) (now (words .entry)) (now (cells .entry))) (entryFor r) ⌝ }
+{
+    if !keeps_row(SET_ROW, r) {
+        return refused_at(f, m, BAD_RECORD);
+    }
+    run_set(f, m, words, cells, r.head, r.word2)
+}
+
+pub(crate) fn run_set(
+    f: Fixed,
+    m: Moving,
+    words: &mut [u64],
+    cells: &mut [u64],
+    head: u16,
+    cell: u64,
+) -> Went
+    ensures { λ r. ⌜ shownRan (ranAgain f r) (now (words .exit)) (now (cells .exit))
+        ≡ ranOn (runningOf (runAgain f m) (now (words .entry)) (now (cells .entry))) (Asks (Set head cell)) ⌝ }
+{
+    let s = state_with(f, m);
+    match judge_set(s, words, cells, head) {
+        Judgement::Refuse(why) => refused_at(f, m, refusal_number(why)),
+        Judgement::Accept(room) => set_in_room(f, m, words, cells, head, cell, room),
+    }
+}
+
+fn set_in_room(
+    f: Fixed,
+    m: Moving,
+    words: &mut [u64],
+    cells: &mut [u64],
+    head: u16,
+    cell: u64,
+    room: Room,
+) -> Went
+    ensures { λ r. ⌜ shownRan (ranAgain f r) (now (words .exit)) (now (cells .exit))
+        ≡ ranAt (runningOf (runAgain f m) (now (words .entry)) (now (cells .entry)))
+        (effectIn (worldOf (stateWith f m) (now (words .entry)) (now (cells .entry))) (Traced (Set head cell)) room) (1 + workOf (Set head cell)) ⌝ }
+{
+    let spent = m.spent;
+    let cost = cost_of(Request::Set(head, cell));
+    if left_of(f.fuel, spent) < cost {
+        return stopped_before(m, cost);
+    }
+    let total = spent + cost;
+    let s = state_with(f, m);
+    let out = step_set(s, words, cells, cell, room);
+    let answer = out.answer;
+    went_on(
+        m,
+        out.state,
+        total,
+        answer_number(answer),
+        answer_offset(answer),
+    )
+}

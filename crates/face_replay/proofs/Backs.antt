@@ -31,7 +31,8 @@ use Rattle.face.proofs.Handed.{given-kept}
 use Rattle.face_replay.specs.declared.flagged.Flagged.{Flagged}
 use Rattle.face_replay.specs.declared.traces.CRun.{CRun}
 use Rattle.face_replay.specs.Flags.{currentIn, isSaid, says, flaggedBack, stateBack, StateSaid, StateBack}
-use Rattle.face_replay.specs.Runs.{RunTold, runTold, stopIn, runningFrom, runningBack, RunSaid, RunBack, StoppedAsItCame, wasAccepted, anyAccepted, StateAsItCame}
+use Rattle.face_replay.specs.Runs.{RunTold, runTold, stopIn, runningFrom, runningBack, RunSaid, RunBack, StoppedAsItCame}
+use Rattle.face_replay.specs.Runs.{wasAccepted, anyAccepted, StateAsItCame}
 use Rattle.face_replay.proofs.traces.cattlecleat_replay.Reads as replays
 
 -- ---- a flag and the number beside it

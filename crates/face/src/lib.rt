@@ -1,5 +1,5 @@
 // What the crates of the C face share: a state and a request as numbers, how they read and how they are told. No bool and no enum crosses to C, and all
-// numbers read as something. Nothing is exported here: face_leaves, face_ask and face_replay are what a host links.
+// numbers read as something. Nothing is exported here: what a host links is the crates face_.., each a module of the archive.
 mod requests;
 mod state;
 

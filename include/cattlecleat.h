@@ -1,6 +1,6 @@
 /* Cattlecleat: the C face of the proved call stack. For x86-64 with the System V calling convention only. C99, and C++ as well.
- * `rt staticlib station`, in the repository, proves the archive and writes target/staticlib/libstation.a; beside it a program links the C
- * library alone: cc -I include program.c target/staticlib/libstation.a
+ * `./cattlecleat archive`, in the repository, proves the archive and writes target/lib/libcattlecleat.a, with this header beside it; a
+ * program links it and the C library alone: cc -I target/lib program.c target/lib/libcattlecleat.a
  * The words and numbers are those of document 01, 'The rules and what will be built'.
  *
  * Asked of the caller, of each function alike, and nothing else:

@@ -1,4 +1,4 @@
-//! Links the archive, libstation.a, from the folder that CATTLECLEAT_ARCHIVE names; by default the repository's target/staticlib.
+//! Links the archive, libcattlecleat.a, from the folder that CATTLECLEAT_ARCHIVE names; by default the repository's target/lib.
 //! Where it cannot, it says why and goes on: `cargo check` and `cargo doc` need no archive, and whatever does stops at the library that is not found.
 use std::env;
 use std::path::{Path, PathBuf};
@@ -6,7 +6,7 @@ use std::path::{Path, PathBuf};
 fn main() {
     println!("cargo::rerun-if-env-changed=CATTLECLEAT_ARCHIVE");
     let folder = archive_folder();
-    let archive = folder.join("libstation.a");
+    let archive = folder.join("libcattlecleat.a");
     match problem_with(&archive) {
         None => watch(&folder, &archive),
         Some(problem) => {
@@ -15,7 +15,7 @@ fn main() {
         }
     }
     println!("cargo::rustc-link-search=native={}", folder.display());
-    println!("cargo::rustc-link-lib=static=station");
+    println!("cargo::rustc-link-lib=static=cattlecleat");
 }
 
 /// An archive that takes this one's place may be older than this run, and then its folder is newer.
@@ -34,7 +34,7 @@ fn archive_folder() -> PathBuf {
     let crate_folder = PathBuf::from(env::var_os("CARGO_MANIFEST_DIR").expect("cargo names the crate's folder"));
     match env::var_os("CATTLECLEAT_ARCHIVE") {
         Some(named) => PathBuf::from(named),
-        None => crate_folder.join("../../target/staticlib"),
+        None => crate_folder.join("../../target/lib"),
     }
 }
 
@@ -48,7 +48,7 @@ fn problem_with(archive: &Path) -> Option<String> {
     let missing = !archive.is_file();
     missing.then(|| {
         format!(
-            "there is no {}; `rt staticlib station` makes it, and CATTLECLEAT_ARCHIVE names its folder",
+            "there is no {}; `./cattlecleat archive` makes it, and CATTLECLEAT_ARCHIVE names its folder",
             archive.display()
         )
     })

@@ -23,12 +23,12 @@ use Rattle.rules.proofs.Verdicts.{exactly-then, refused-unchanged}
 use Rattle.request.specs.declared.Decoded.{Decoded}
 use Rattle.request.specs.declared.Decoded.the-variants.{Asks, Bad}
 use Rattle.replay.specs.Running.{answerTo}
-use Rattle.station.specs.declared.state.CState.{CState}
-use Rattle.station.specs.declared.answers.CAnswer.{CAnswer}
-use Rattle.station.specs.Requests.{requestFrom}
-use Rattle.station.specs.Told.{stateAfter, told, ToldAnswer, afterTold}
-use Rattle.station.specs.Runs.{RunTold}
-use Rattle.station.proofs.Backs.{state-as-it-came}
+use Rattle.face.specs.declared.state.CState.{CState}
+use Rattle.face.specs.Requests.{requestFrom}
+use Rattle.face_ask.specs.declared.answers.CAnswer.{CAnswer}
+use Rattle.face_ask.specs.Told.{stateAfter, told, ToldAnswer, afterTold}
+use Rattle.face_replay.specs.Runs.{RunTold}
+use Rattle.face_replay.proofs.Backs.{state-as-it-came}
 use Rattle.demands.specs.Heard.{worldSaid}
 use Rattle.demands.specs.AsTheyCame.{NumbersAsked, StatesAsTheyCame, RunsAsTheyCame}
 

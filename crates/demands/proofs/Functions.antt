@@ -20,7 +20,10 @@ use Rattle.lines.proofs.Settled as lines-all
 use Rattle.ask.proofs.Settled as ask-all
 use Rattle.replay.proofs.Settled as replay-all
 use Rattle.listing.proofs.Settled as listing-all
-use Rattle.station.proofs.Settled as station-all
+use Rattle.face.proofs.Settled as face-all
+use Rattle.face_leaves.proofs.Settled as face-leaves-all
+use Rattle.face_ask.proofs.Settled as face-ask-all
+use Rattle.face_replay.proofs.Settled as face-replay-all
 use Rattle.given.proofs.given_if as given-given-if
 use Rattle.given.proofs.given_number as given-given-number
 use Rattle.given.proofs.is_given as given-is-given
@@ -159,24 +162,28 @@ use Rattle.replay.proofs.run_record as replay-run-record
 use Rattle.replay.proofs.start as replay-start
 use Rattle.listing.proofs.list_block as listing-list-block
 use Rattle.listing.proofs.list_end as listing-list-end
-use Rattle.station.proofs.cattlecleat_align as station-cattlecleat-align
-use Rattle.station.proofs.cattlecleat_ask as station-cattlecleat-ask
-use Rattle.station.proofs.cattlecleat_done_with as station-cattlecleat-done-with
-use Rattle.station.proofs.cattlecleat_from_register as station-cattlecleat-from-register
-use Rattle.station.proofs.cattlecleat_host_part as station-cattlecleat-host-part
-use Rattle.station.proofs.cattlecleat_open as station-cattlecleat-open
-use Rattle.station.proofs.cattlecleat_put_freg32 as station-cattlecleat-put-freg32
-use Rattle.station.proofs.cattlecleat_put_freg64 as station-cattlecleat-put-freg64
-use Rattle.station.proofs.cattlecleat_put_ireg as station-cattlecleat-put-ireg
-use Rattle.station.proofs.cattlecleat_put_registers as station-cattlecleat-put-registers
-use Rattle.station.proofs.cattlecleat_read_record as station-cattlecleat-read-record
-use Rattle.station.proofs.cattlecleat_read_registers as station-cattlecleat-read-registers
-use Rattle.station.proofs.cattlecleat_replay as station-cattlecleat-replay
-use Rattle.station.proofs.cattlecleat_sync_registers as station-cattlecleat-sync-registers
-use Rattle.station.proofs.cattlecleat_take_done_reason as station-cattlecleat-take-done-reason
-use Rattle.station.proofs.cattlecleat_to_register as station-cattlecleat-to-register
-use Rattle.station.proofs.cattlecleat_write_record as station-cattlecleat-write-record
-use Rattle.station.proofs.cattlecleat_zero_registers as station-cattlecleat-zero-registers
+use Rattle.face.proofs.request_from as face-request-from
+use Rattle.face.proofs.request_to as face-request-to
+use Rattle.face.proofs.state_from as face-state-from
+use Rattle.face.proofs.state_to as face-state-to
+use Rattle.face_leaves.proofs.cattlecleat_align as face-leaves-cattlecleat-align
+use Rattle.face_leaves.proofs.cattlecleat_done_with as face-leaves-cattlecleat-done-with
+use Rattle.face_leaves.proofs.cattlecleat_from_register as face-leaves-cattlecleat-from-register
+use Rattle.face_leaves.proofs.cattlecleat_put_freg32 as face-leaves-cattlecleat-put-freg32
+use Rattle.face_leaves.proofs.cattlecleat_put_freg64 as face-leaves-cattlecleat-put-freg64
+use Rattle.face_leaves.proofs.cattlecleat_put_ireg as face-leaves-cattlecleat-put-ireg
+use Rattle.face_leaves.proofs.cattlecleat_put_registers as face-leaves-cattlecleat-put-registers
+use Rattle.face_leaves.proofs.cattlecleat_read_record as face-leaves-cattlecleat-read-record
+use Rattle.face_leaves.proofs.cattlecleat_read_registers as face-leaves-cattlecleat-read-registers
+use Rattle.face_leaves.proofs.cattlecleat_take_done_reason as face-leaves-cattlecleat-take-done-reason
+use Rattle.face_leaves.proofs.cattlecleat_to_register as face-leaves-cattlecleat-to-register
+use Rattle.face_leaves.proofs.cattlecleat_write_record as face-leaves-cattlecleat-write-record
+use Rattle.face_leaves.proofs.cattlecleat_zero_registers as face-leaves-cattlecleat-zero-registers
+use Rattle.face_ask.proofs.cattlecleat_ask as face-ask-cattlecleat-ask
+use Rattle.face_ask.proofs.cattlecleat_host_part as face-ask-cattlecleat-host-part
+use Rattle.face_ask.proofs.cattlecleat_open as face-ask-cattlecleat-open
+use Rattle.face_ask.proofs.cattlecleat_sync_registers as face-ask-cattlecleat-sync-registers
+use Rattle.face_replay.proofs.cattlecleat_replay as face-replay-cattlecleat-replay
 use Rattle.demands.specs.Settled.{Settled}
 
 pub settled-given-given-if :
@@ -2111,254 +2118,310 @@ settled-listing-list-end = record {
       (λ i. s i .0, λ i. (a .0, (at-last (a .1 .0) (s i .1), tt)));
 }
 
-pub settled-station-cattlecleat-align :
-    Settled station-cattlecleat-align.ended (λ M. station-cattlecleat-align.clauses {M = M}) (λ κ r. r)
-settled-station-cattlecleat-align = record {
+pub settled-face-request-from :
+    Settled face-request-from.ended (λ M. face-request-from.clauses {M = M}) (λ κ r. r)
+settled-face-request-from = record {
   Post = λ κ a r e. _;
   asks-nothing = λ M 𝓤 H A mem run κ a g. refl;
   asks-no-ghost = λ M 𝓤 H A mem run κ a. refl;
   promises = λ M 𝓤 H A mem run κ a g r e. refl;
   once = λ κ a r r′ ws ws′ p q.
-      let e = atExit station-cattlecleat-align.ended κ a ws in
-      let e′ = atExit station-cattlecleat-align.ended κ a ws′ in
-      let s = station-all.cattlecleat-align-settled κ a r r′ e e′ p q in
+      let e = atExit face-request-from.ended κ a ws in
+      let e′ = atExit face-request-from.ended κ a ws′ in
+      let s = face-all.request-from-settled κ a r r′ e e′ p q in
       (s, refl);
 }
 
-pub settled-station-cattlecleat-ask :
-    Settled station-cattlecleat-ask.ended (λ M. station-cattlecleat-ask.clauses {M = M}) (λ κ r. r)
-settled-station-cattlecleat-ask = record {
+pub settled-face-request-to :
+    Settled face-request-to.ended (λ M. face-request-to.clauses {M = M}) (λ κ r. r)
+settled-face-request-to = record {
   Post = λ κ a r e. _;
   asks-nothing = λ M 𝓤 H A mem run κ a g. refl;
   asks-no-ghost = λ M 𝓤 H A mem run κ a. refl;
   promises = λ M 𝓤 H A mem run κ a g r e. refl;
   once = λ κ a r r′ ws ws′ p q.
-      let e = atExit station-cattlecleat-ask.ended κ a ws in
-      let e′ = atExit station-cattlecleat-ask.ended κ a ws′ in
-      let s = station-all.cattlecleat-ask-settled κ a r r′ e e′ p q in
-      (λ i. s i .0, λ i. (a .0, (at-last (a .1 .0) (s i .1 .0), (at-last (a .1 .1 .0) (s i .1 .1), (a .1 .1 .1 .0, tt)))));
-}
-
-pub settled-station-cattlecleat-done-with :
-    Settled station-cattlecleat-done-with.ended (λ M. station-cattlecleat-done-with.clauses {M = M}) (λ κ r. r)
-settled-station-cattlecleat-done-with = record {
-  Post = λ κ a r e. _;
-  asks-nothing = λ M 𝓤 H A mem run κ a g. refl;
-  asks-no-ghost = λ M 𝓤 H A mem run κ a. refl;
-  promises = λ M 𝓤 H A mem run κ a g r e. refl;
-  once = λ κ a r r′ ws ws′ p q.
-      let e = atExit station-cattlecleat-done-with.ended κ a ws in
-      let e′ = atExit station-cattlecleat-done-with.ended κ a ws′ in
-      let s = station-all.cattlecleat-done-with-settled κ a r r′ e e′ p q in
+      let e = atExit face-request-to.ended κ a ws in
+      let e′ = atExit face-request-to.ended κ a ws′ in
+      let s = face-all.request-to-settled κ a r r′ e e′ p q in
       (s, refl);
 }
 
-pub settled-station-cattlecleat-from-register :
-    Settled station-cattlecleat-from-register.ended (λ M. station-cattlecleat-from-register.clauses {M = M}) (λ κ r. r)
-settled-station-cattlecleat-from-register = record {
+pub settled-face-state-from :
+    Settled face-state-from.ended (λ M. face-state-from.clauses {M = M}) (λ κ r. r)
+settled-face-state-from = record {
   Post = λ κ a r e. _;
   asks-nothing = λ M 𝓤 H A mem run κ a g. refl;
   asks-no-ghost = λ M 𝓤 H A mem run κ a. refl;
   promises = λ M 𝓤 H A mem run κ a g r e. refl;
   once = λ κ a r r′ ws ws′ p q.
-      let e = atExit station-cattlecleat-from-register.ended κ a ws in
-      let e′ = atExit station-cattlecleat-from-register.ended κ a ws′ in
-      let s = station-all.cattlecleat-from-register-settled κ a r r′ e e′ p q in
+      let e = atExit face-state-from.ended κ a ws in
+      let e′ = atExit face-state-from.ended κ a ws′ in
+      let s = face-all.state-from-settled κ a r r′ e e′ p q in
       (s, refl);
 }
 
-pub settled-station-cattlecleat-host-part :
-    Settled station-cattlecleat-host-part.ended (λ M. station-cattlecleat-host-part.clauses {M = M}) (λ κ r. r)
-settled-station-cattlecleat-host-part = record {
+pub settled-face-state-to :
+    Settled face-state-to.ended (λ M. face-state-to.clauses {M = M}) (λ κ r. r)
+settled-face-state-to = record {
   Post = λ κ a r e. _;
   asks-nothing = λ M 𝓤 H A mem run κ a g. refl;
   asks-no-ghost = λ M 𝓤 H A mem run κ a. refl;
   promises = λ M 𝓤 H A mem run κ a g r e. refl;
   once = λ κ a r r′ ws ws′ p q.
-      let e = atExit station-cattlecleat-host-part.ended κ a ws in
-      let e′ = atExit station-cattlecleat-host-part.ended κ a ws′ in
-      let s = station-all.cattlecleat-host-part-settled κ a r r′ e e′ p q in
+      let e = atExit face-state-to.ended κ a ws in
+      let e′ = atExit face-state-to.ended κ a ws′ in
+      let s = face-all.state-to-settled κ a r r′ e e′ p q in
       (s, refl);
 }
 
-pub settled-station-cattlecleat-open :
-    Settled station-cattlecleat-open.ended (λ M. station-cattlecleat-open.clauses {M = M}) (λ κ r. r)
-settled-station-cattlecleat-open = record {
+pub settled-face-leaves-cattlecleat-align :
+    Settled face-leaves-cattlecleat-align.ended (λ M. face-leaves-cattlecleat-align.clauses {M = M}) (λ κ r. r)
+settled-face-leaves-cattlecleat-align = record {
   Post = λ κ a r e. _;
   asks-nothing = λ M 𝓤 H A mem run κ a g. refl;
   asks-no-ghost = λ M 𝓤 H A mem run κ a. refl;
   promises = λ M 𝓤 H A mem run κ a g r e. refl;
   once = λ κ a r r′ ws ws′ p q.
-      let e = atExit station-cattlecleat-open.ended κ a ws in
-      let e′ = atExit station-cattlecleat-open.ended κ a ws′ in
-      let s = station-all.cattlecleat-open-settled κ a r r′ e e′ p q in
+      let e = atExit face-leaves-cattlecleat-align.ended κ a ws in
+      let e′ = atExit face-leaves-cattlecleat-align.ended κ a ws′ in
+      let s = face-leaves-all.cattlecleat-align-settled κ a r r′ e e′ p q in
       (s, refl);
 }
 
-pub settled-station-cattlecleat-put-freg32 :
-    Settled station-cattlecleat-put-freg32.ended (λ M. station-cattlecleat-put-freg32.clauses {M = M}) (λ κ r. r)
-settled-station-cattlecleat-put-freg32 = record {
+pub settled-face-leaves-cattlecleat-done-with :
+    Settled face-leaves-cattlecleat-done-with.ended (λ M. face-leaves-cattlecleat-done-with.clauses {M = M}) (λ κ r. r)
+settled-face-leaves-cattlecleat-done-with = record {
   Post = λ κ a r e. _;
   asks-nothing = λ M 𝓤 H A mem run κ a g. refl;
   asks-no-ghost = λ M 𝓤 H A mem run κ a. refl;
   promises = λ M 𝓤 H A mem run κ a g r e. refl;
   once = λ κ a r r′ ws ws′ p q.
-      let e = atExit station-cattlecleat-put-freg32.ended κ a ws in
-      let e′ = atExit station-cattlecleat-put-freg32.ended κ a ws′ in
-      let s = station-all.cattlecleat-put-freg32-settled κ a r r′ e e′ p q in
+      let e = atExit face-leaves-cattlecleat-done-with.ended κ a ws in
+      let e′ = atExit face-leaves-cattlecleat-done-with.ended κ a ws′ in
+      let s = face-leaves-all.cattlecleat-done-with-settled κ a r r′ e e′ p q in
+      (s, refl);
+}
+
+pub settled-face-leaves-cattlecleat-from-register :
+    Settled face-leaves-cattlecleat-from-register.ended (λ M. face-leaves-cattlecleat-from-register.clauses {M = M}) (λ κ r. r)
+settled-face-leaves-cattlecleat-from-register = record {
+  Post = λ κ a r e. _;
+  asks-nothing = λ M 𝓤 H A mem run κ a g. refl;
+  asks-no-ghost = λ M 𝓤 H A mem run κ a. refl;
+  promises = λ M 𝓤 H A mem run κ a g r e. refl;
+  once = λ κ a r r′ ws ws′ p q.
+      let e = atExit face-leaves-cattlecleat-from-register.ended κ a ws in
+      let e′ = atExit face-leaves-cattlecleat-from-register.ended κ a ws′ in
+      let s = face-leaves-all.cattlecleat-from-register-settled κ a r r′ e e′ p q in
+      (s, refl);
+}
+
+pub settled-face-leaves-cattlecleat-put-freg32 :
+    Settled face-leaves-cattlecleat-put-freg32.ended (λ M. face-leaves-cattlecleat-put-freg32.clauses {M = M}) (λ κ r. r)
+settled-face-leaves-cattlecleat-put-freg32 = record {
+  Post = λ κ a r e. _;
+  asks-nothing = λ M 𝓤 H A mem run κ a g. refl;
+  asks-no-ghost = λ M 𝓤 H A mem run κ a. refl;
+  promises = λ M 𝓤 H A mem run κ a g r e. refl;
+  once = λ κ a r r′ ws ws′ p q.
+      let e = atExit face-leaves-cattlecleat-put-freg32.ended κ a ws in
+      let e′ = atExit face-leaves-cattlecleat-put-freg32.ended κ a ws′ in
+      let s = face-leaves-all.cattlecleat-put-freg32-settled κ a r r′ e e′ p q in
       (refl, λ i. (at-last (a .0) (s i), (a .1 .0, tt)));
 }
 
-pub settled-station-cattlecleat-put-freg64 :
-    Settled station-cattlecleat-put-freg64.ended (λ M. station-cattlecleat-put-freg64.clauses {M = M}) (λ κ r. r)
-settled-station-cattlecleat-put-freg64 = record {
+pub settled-face-leaves-cattlecleat-put-freg64 :
+    Settled face-leaves-cattlecleat-put-freg64.ended (λ M. face-leaves-cattlecleat-put-freg64.clauses {M = M}) (λ κ r. r)
+settled-face-leaves-cattlecleat-put-freg64 = record {
   Post = λ κ a r e. _;
   asks-nothing = λ M 𝓤 H A mem run κ a g. refl;
   asks-no-ghost = λ M 𝓤 H A mem run κ a. refl;
   promises = λ M 𝓤 H A mem run κ a g r e. refl;
   once = λ κ a r r′ ws ws′ p q.
-      let e = atExit station-cattlecleat-put-freg64.ended κ a ws in
-      let e′ = atExit station-cattlecleat-put-freg64.ended κ a ws′ in
-      let s = station-all.cattlecleat-put-freg64-settled κ a r r′ e e′ p q in
+      let e = atExit face-leaves-cattlecleat-put-freg64.ended κ a ws in
+      let e′ = atExit face-leaves-cattlecleat-put-freg64.ended κ a ws′ in
+      let s = face-leaves-all.cattlecleat-put-freg64-settled κ a r r′ e e′ p q in
       (refl, λ i. (at-last (a .0) (s i), (a .1 .0, tt)));
 }
 
-pub settled-station-cattlecleat-put-ireg :
-    Settled station-cattlecleat-put-ireg.ended (λ M. station-cattlecleat-put-ireg.clauses {M = M}) (λ κ r. r)
-settled-station-cattlecleat-put-ireg = record {
+pub settled-face-leaves-cattlecleat-put-ireg :
+    Settled face-leaves-cattlecleat-put-ireg.ended (λ M. face-leaves-cattlecleat-put-ireg.clauses {M = M}) (λ κ r. r)
+settled-face-leaves-cattlecleat-put-ireg = record {
   Post = λ κ a r e. _;
   asks-nothing = λ M 𝓤 H A mem run κ a g. refl;
   asks-no-ghost = λ M 𝓤 H A mem run κ a. refl;
   promises = λ M 𝓤 H A mem run κ a g r e. refl;
   once = λ κ a r r′ ws ws′ p q.
-      let e = atExit station-cattlecleat-put-ireg.ended κ a ws in
-      let e′ = atExit station-cattlecleat-put-ireg.ended κ a ws′ in
-      let s = station-all.cattlecleat-put-ireg-settled κ a r r′ e e′ p q in
+      let e = atExit face-leaves-cattlecleat-put-ireg.ended κ a ws in
+      let e′ = atExit face-leaves-cattlecleat-put-ireg.ended κ a ws′ in
+      let s = face-leaves-all.cattlecleat-put-ireg-settled κ a r r′ e e′ p q in
       (refl, λ i. (at-last (a .0) (s i), (a .1 .0, tt)));
 }
 
-pub settled-station-cattlecleat-put-registers :
-    Settled station-cattlecleat-put-registers.ended (λ M. station-cattlecleat-put-registers.clauses {M = M}) (λ κ r. r)
-settled-station-cattlecleat-put-registers = record {
+pub settled-face-leaves-cattlecleat-put-registers :
+    Settled face-leaves-cattlecleat-put-registers.ended (λ M. face-leaves-cattlecleat-put-registers.clauses {M = M}) (λ κ r. r)
+settled-face-leaves-cattlecleat-put-registers = record {
   Post = λ κ a r e. _;
   asks-nothing = λ M 𝓤 H A mem run κ a g. refl;
   asks-no-ghost = λ M 𝓤 H A mem run κ a. refl;
   promises = λ M 𝓤 H A mem run κ a g r e. refl;
   once = λ κ a r r′ ws ws′ p q.
-      let e = atExit station-cattlecleat-put-registers.ended κ a ws in
-      let e′ = atExit station-cattlecleat-put-registers.ended κ a ws′ in
-      let s = station-all.cattlecleat-put-registers-settled κ a r r′ e e′ p q in
+      let e = atExit face-leaves-cattlecleat-put-registers.ended κ a ws in
+      let e′ = atExit face-leaves-cattlecleat-put-registers.ended κ a ws′ in
+      let s = face-leaves-all.cattlecleat-put-registers-settled κ a r r′ e e′ p q in
       (refl, λ i. (at-last (a .0) (s i), (a .1 .0, (a .1 .1 .0, (a .1 .1 .1 .0, tt)))));
 }
 
-pub settled-station-cattlecleat-read-record :
-    Settled station-cattlecleat-read-record.ended (λ M. station-cattlecleat-read-record.clauses {M = M}) (λ κ r. r)
-settled-station-cattlecleat-read-record = record {
+pub settled-face-leaves-cattlecleat-read-record :
+    Settled face-leaves-cattlecleat-read-record.ended (λ M. face-leaves-cattlecleat-read-record.clauses {M = M}) (λ κ r. r)
+settled-face-leaves-cattlecleat-read-record = record {
   Post = λ κ a r e. _;
   asks-nothing = λ M 𝓤 H A mem run κ a g. refl;
   asks-no-ghost = λ M 𝓤 H A mem run κ a. refl;
   promises = λ M 𝓤 H A mem run κ a g r e. refl;
   once = λ κ a r r′ ws ws′ p q.
-      let e = atExit station-cattlecleat-read-record.ended κ a ws in
-      let e′ = atExit station-cattlecleat-read-record.ended κ a ws′ in
-      let s = station-all.cattlecleat-read-record-settled κ a r r′ e e′ p q in
+      let e = atExit face-leaves-cattlecleat-read-record.ended κ a ws in
+      let e′ = atExit face-leaves-cattlecleat-read-record.ended κ a ws′ in
+      let s = face-leaves-all.cattlecleat-read-record-settled κ a r r′ e e′ p q in
       (s, refl);
 }
 
-pub settled-station-cattlecleat-read-registers :
-    Settled station-cattlecleat-read-registers.ended (λ M. station-cattlecleat-read-registers.clauses {M = M}) (λ κ r. r)
-settled-station-cattlecleat-read-registers = record {
+pub settled-face-leaves-cattlecleat-read-registers :
+    Settled face-leaves-cattlecleat-read-registers.ended (λ M. face-leaves-cattlecleat-read-registers.clauses {M = M}) (λ κ r. r)
+settled-face-leaves-cattlecleat-read-registers = record {
   Post = λ κ a r e. _;
   asks-nothing = λ M 𝓤 H A mem run κ a g. refl;
   asks-no-ghost = λ M 𝓤 H A mem run κ a. refl;
   promises = λ M 𝓤 H A mem run κ a g r e. refl;
   once = λ κ a r r′ ws ws′ p q.
-      let e = atExit station-cattlecleat-read-registers.ended κ a ws in
-      let e′ = atExit station-cattlecleat-read-registers.ended κ a ws′ in
-      let s = station-all.cattlecleat-read-registers-settled κ a r r′ e e′ p q in
+      let e = atExit face-leaves-cattlecleat-read-registers.ended κ a ws in
+      let e′ = atExit face-leaves-cattlecleat-read-registers.ended κ a ws′ in
+      let s = face-leaves-all.cattlecleat-read-registers-settled κ a r r′ e e′ p q in
       (s, refl);
 }
 
-pub settled-station-cattlecleat-replay :
-    Settled station-cattlecleat-replay.ended (λ M. station-cattlecleat-replay.clauses {M = M}) (λ κ r. r)
-settled-station-cattlecleat-replay = record {
+pub settled-face-leaves-cattlecleat-take-done-reason :
+    Settled face-leaves-cattlecleat-take-done-reason.ended (λ M. face-leaves-cattlecleat-take-done-reason.clauses {M = M}) (λ κ r. r)
+settled-face-leaves-cattlecleat-take-done-reason = record {
   Post = λ κ a r e. _;
   asks-nothing = λ M 𝓤 H A mem run κ a g. refl;
   asks-no-ghost = λ M 𝓤 H A mem run κ a. refl;
   promises = λ M 𝓤 H A mem run κ a g r e. refl;
   once = λ κ a r r′ ws ws′ p q.
-      let e = atExit station-cattlecleat-replay.ended κ a ws in
-      let e′ = atExit station-cattlecleat-replay.ended κ a ws′ in
-      let s = station-all.cattlecleat-replay-settled κ a r r′ e e′ p q in
-      (λ i. s i .0, λ i. (a .0, (at-last (a .1 .0) (s i .1 .0), (at-last (a .1 .1 .0) (s i .1 .1), (a .1 .1 .1 .0, tt)))));
-}
-
-pub settled-station-cattlecleat-sync-registers :
-    Settled station-cattlecleat-sync-registers.ended (λ M. station-cattlecleat-sync-registers.clauses {M = M}) (λ κ r. r)
-settled-station-cattlecleat-sync-registers = record {
-  Post = λ κ a r e. _;
-  asks-nothing = λ M 𝓤 H A mem run κ a g. refl;
-  asks-no-ghost = λ M 𝓤 H A mem run κ a. refl;
-  promises = λ M 𝓤 H A mem run κ a g r e. refl;
-  once = λ κ a r r′ ws ws′ p q.
-      let e = atExit station-cattlecleat-sync-registers.ended κ a ws in
-      let e′ = atExit station-cattlecleat-sync-registers.ended κ a ws′ in
-      let s = station-all.cattlecleat-sync-registers-settled κ a r r′ e e′ p q in
+      let e = atExit face-leaves-cattlecleat-take-done-reason.ended κ a ws in
+      let e′ = atExit face-leaves-cattlecleat-take-done-reason.ended κ a ws′ in
+      let s = face-leaves-all.cattlecleat-take-done-reason-settled κ a r r′ e e′ p q in
       (s, refl);
 }
 
-pub settled-station-cattlecleat-take-done-reason :
-    Settled station-cattlecleat-take-done-reason.ended (λ M. station-cattlecleat-take-done-reason.clauses {M = M}) (λ κ r. r)
-settled-station-cattlecleat-take-done-reason = record {
+pub settled-face-leaves-cattlecleat-to-register :
+    Settled face-leaves-cattlecleat-to-register.ended (λ M. face-leaves-cattlecleat-to-register.clauses {M = M}) (λ κ r. r)
+settled-face-leaves-cattlecleat-to-register = record {
   Post = λ κ a r e. _;
   asks-nothing = λ M 𝓤 H A mem run κ a g. refl;
   asks-no-ghost = λ M 𝓤 H A mem run κ a. refl;
   promises = λ M 𝓤 H A mem run κ a g r e. refl;
   once = λ κ a r r′ ws ws′ p q.
-      let e = atExit station-cattlecleat-take-done-reason.ended κ a ws in
-      let e′ = atExit station-cattlecleat-take-done-reason.ended κ a ws′ in
-      let s = station-all.cattlecleat-take-done-reason-settled κ a r r′ e e′ p q in
+      let e = atExit face-leaves-cattlecleat-to-register.ended κ a ws in
+      let e′ = atExit face-leaves-cattlecleat-to-register.ended κ a ws′ in
+      let s = face-leaves-all.cattlecleat-to-register-settled κ a r r′ e e′ p q in
       (s, refl);
 }
 
-pub settled-station-cattlecleat-to-register :
-    Settled station-cattlecleat-to-register.ended (λ M. station-cattlecleat-to-register.clauses {M = M}) (λ κ r. r)
-settled-station-cattlecleat-to-register = record {
+pub settled-face-leaves-cattlecleat-write-record :
+    Settled face-leaves-cattlecleat-write-record.ended (λ M. face-leaves-cattlecleat-write-record.clauses {M = M}) (λ κ r. r)
+settled-face-leaves-cattlecleat-write-record = record {
   Post = λ κ a r e. _;
   asks-nothing = λ M 𝓤 H A mem run κ a g. refl;
   asks-no-ghost = λ M 𝓤 H A mem run κ a. refl;
   promises = λ M 𝓤 H A mem run κ a g r e. refl;
   once = λ κ a r r′ ws ws′ p q.
-      let e = atExit station-cattlecleat-to-register.ended κ a ws in
-      let e′ = atExit station-cattlecleat-to-register.ended κ a ws′ in
-      let s = station-all.cattlecleat-to-register-settled κ a r r′ e e′ p q in
-      (s, refl);
-}
-
-pub settled-station-cattlecleat-write-record :
-    Settled station-cattlecleat-write-record.ended (λ M. station-cattlecleat-write-record.clauses {M = M}) (λ κ r. r)
-settled-station-cattlecleat-write-record = record {
-  Post = λ κ a r e. _;
-  asks-nothing = λ M 𝓤 H A mem run κ a g. refl;
-  asks-no-ghost = λ M 𝓤 H A mem run κ a. refl;
-  promises = λ M 𝓤 H A mem run κ a g r e. refl;
-  once = λ κ a r r′ ws ws′ p q.
-      let e = atExit station-cattlecleat-write-record.ended κ a ws in
-      let e′ = atExit station-cattlecleat-write-record.ended κ a ws′ in
-      let s = station-all.cattlecleat-write-record-settled κ a r r′ e e′ p q in
+      let e = atExit face-leaves-cattlecleat-write-record.ended κ a ws in
+      let e′ = atExit face-leaves-cattlecleat-write-record.ended κ a ws′ in
+      let s = face-leaves-all.cattlecleat-write-record-settled κ a r r′ e e′ p q in
       (λ i. s i .0, λ i. (at-last (a .0) (s i .1), (a .1 .0, (a .1 .1 .0, tt))));
 }
 
-pub settled-station-cattlecleat-zero-registers :
-    Settled station-cattlecleat-zero-registers.ended (λ M. station-cattlecleat-zero-registers.clauses {M = M}) (λ κ r. r)
-settled-station-cattlecleat-zero-registers = record {
+pub settled-face-leaves-cattlecleat-zero-registers :
+    Settled face-leaves-cattlecleat-zero-registers.ended (λ M. face-leaves-cattlecleat-zero-registers.clauses {M = M}) (λ κ r. r)
+settled-face-leaves-cattlecleat-zero-registers = record {
   Post = λ κ a r e. _;
   asks-nothing = λ M 𝓤 H A mem run κ a g. refl;
   asks-no-ghost = λ M 𝓤 H A mem run κ a. refl;
   promises = λ M 𝓤 H A mem run κ a g r e. refl;
   once = λ κ a r r′ ws ws′ p q.
-      let e = atExit station-cattlecleat-zero-registers.ended κ a ws in
-      let e′ = atExit station-cattlecleat-zero-registers.ended κ a ws′ in
-      let s = station-all.cattlecleat-zero-registers-settled κ a r r′ e e′ p q in
+      let e = atExit face-leaves-cattlecleat-zero-registers.ended κ a ws in
+      let e′ = atExit face-leaves-cattlecleat-zero-registers.ended κ a ws′ in
+      let s = face-leaves-all.cattlecleat-zero-registers-settled κ a r r′ e e′ p q in
       (refl, λ i. (at-last (a .0) (s i), tt));
+}
+
+pub settled-face-ask-cattlecleat-ask :
+    Settled face-ask-cattlecleat-ask.ended (λ M. face-ask-cattlecleat-ask.clauses {M = M}) (λ κ r. r)
+settled-face-ask-cattlecleat-ask = record {
+  Post = λ κ a r e. _;
+  asks-nothing = λ M 𝓤 H A mem run κ a g. refl;
+  asks-no-ghost = λ M 𝓤 H A mem run κ a. refl;
+  promises = λ M 𝓤 H A mem run κ a g r e. refl;
+  once = λ κ a r r′ ws ws′ p q.
+      let e = atExit face-ask-cattlecleat-ask.ended κ a ws in
+      let e′ = atExit face-ask-cattlecleat-ask.ended κ a ws′ in
+      let s = face-ask-all.cattlecleat-ask-settled κ a r r′ e e′ p q in
+      (λ i. s i .0, λ i. (a .0, (at-last (a .1 .0) (s i .1 .0), (at-last (a .1 .1 .0) (s i .1 .1), (a .1 .1 .1 .0, tt)))));
+}
+
+pub settled-face-ask-cattlecleat-host-part :
+    Settled face-ask-cattlecleat-host-part.ended (λ M. face-ask-cattlecleat-host-part.clauses {M = M}) (λ κ r. r)
+settled-face-ask-cattlecleat-host-part = record {
+  Post = λ κ a r e. _;
+  asks-nothing = λ M 𝓤 H A mem run κ a g. refl;
+  asks-no-ghost = λ M 𝓤 H A mem run κ a. refl;
+  promises = λ M 𝓤 H A mem run κ a g r e. refl;
+  once = λ κ a r r′ ws ws′ p q.
+      let e = atExit face-ask-cattlecleat-host-part.ended κ a ws in
+      let e′ = atExit face-ask-cattlecleat-host-part.ended κ a ws′ in
+      let s = face-ask-all.cattlecleat-host-part-settled κ a r r′ e e′ p q in
+      (s, refl);
+}
+
+pub settled-face-ask-cattlecleat-open :
+    Settled face-ask-cattlecleat-open.ended (λ M. face-ask-cattlecleat-open.clauses {M = M}) (λ κ r. r)
+settled-face-ask-cattlecleat-open = record {
+  Post = λ κ a r e. _;
+  asks-nothing = λ M 𝓤 H A mem run κ a g. refl;
+  asks-no-ghost = λ M 𝓤 H A mem run κ a. refl;
+  promises = λ M 𝓤 H A mem run κ a g r e. refl;
+  once = λ κ a r r′ ws ws′ p q.
+      let e = atExit face-ask-cattlecleat-open.ended κ a ws in
+      let e′ = atExit face-ask-cattlecleat-open.ended κ a ws′ in
+      let s = face-ask-all.cattlecleat-open-settled κ a r r′ e e′ p q in
+      (s, refl);
+}
+
+pub settled-face-ask-cattlecleat-sync-registers :
+    Settled face-ask-cattlecleat-sync-registers.ended (λ M. face-ask-cattlecleat-sync-registers.clauses {M = M}) (λ κ r. r)
+settled-face-ask-cattlecleat-sync-registers = record {
+  Post = λ κ a r e. _;
+  asks-nothing = λ M 𝓤 H A mem run κ a g. refl;
+  asks-no-ghost = λ M 𝓤 H A mem run κ a. refl;
+  promises = λ M 𝓤 H A mem run κ a g r e. refl;
+  once = λ κ a r r′ ws ws′ p q.
+      let e = atExit face-ask-cattlecleat-sync-registers.ended κ a ws in
+      let e′ = atExit face-ask-cattlecleat-sync-registers.ended κ a ws′ in
+      let s = face-ask-all.cattlecleat-sync-registers-settled κ a r r′ e e′ p q in
+      (s, refl);
+}
+
+pub settled-face-replay-cattlecleat-replay :
+    Settled face-replay-cattlecleat-replay.ended (λ M. face-replay-cattlecleat-replay.clauses {M = M}) (λ κ r. r)
+settled-face-replay-cattlecleat-replay = record {
+  Post = λ κ a r e. _;
+  asks-nothing = λ M 𝓤 H A mem run κ a g. refl;
+  asks-no-ghost = λ M 𝓤 H A mem run κ a. refl;
+  promises = λ M 𝓤 H A mem run κ a g r e. refl;
+  once = λ κ a r r′ ws ws′ p q.
+      let e = atExit face-replay-cattlecleat-replay.ended κ a ws in
+      let e′ = atExit face-replay-cattlecleat-replay.ended κ a ws′ in
+      let s = face-replay-all.cattlecleat-replay-settled κ a r r′ e e′ p q in
+      (λ i. s i .0, λ i. (a .0, (at-last (a .1 .0) (s i .1 .0), (at-last (a .1 .1 .0) (s i .1 .1), (a .1 .1 .1 .0, tt)))));
 }

@@ -26,11 +26,11 @@ use Rattle.rules.proofs.Verdicts.{refused-unchanged}
 use Rattle.rules.proofs.Kept.{part-changes-nothing}
 use Rattle.replay.specs.Running.{answerTo}
 use Rattle.stack_hosts.specs.Routine.{sumStored, hostCalled}
-use Rattle.station.specs.declared.state.CState.{CState}
-use Rattle.station.specs.States.{stateFrom, stateTo}
-use Rattle.station.specs.Told.{stateAfter, ToldAnswer, afterTold}
-use Rattle.station.specs.Parts.{partWith, partRefused, sizeOf, frameLent, partTold}
-use Rattle.station.proofs.Handed.{state-kept}
+use Rattle.face.specs.declared.state.CState.{CState}
+use Rattle.face.specs.States.{stateFrom, stateTo}
+use Rattle.face.proofs.Handed.{state-kept}
+use Rattle.face_ask.specs.Told.{stateAfter, ToldAnswer, afterTold}
+use Rattle.face_ask.specs.Parts.{partWith, partRefused, sizeOf, frameLent, partTold}
 use Rattle.demands.specs.Heard.{worldSaid, afterSaid, partSaid, Heard, by-push-frame, by-pop-frame, by-replace-frame, by-prepare-host-frame}
 use Rattle.demands.specs.Heard.{by-return-prepare-host-frame, by-sync-ip, by-restore-frame, by-reset, by-set, by-sync-regs, by-host-inout, by-ask}
 use Rattle.demands.specs.Heard.{by-cattlecleat-ask, by-cattlecleat-sync-registers, by-cattlecleat-host-part, RoutineHeard, by-call-host, routineWrites}

@@ -15,9 +15,9 @@ use Rattle.done.specs.declared.DoneReason.{DoneReason}
 use Rattle.done.specs.declared.DoneSlot.{DoneSlot}
 use Rattle.done.specs.declared.DoneSlot.the-variants.{Empty, Holds}
 use Rattle.done.specs.Done.{isFilled, ShownFill, fillTests, fillRefused, fillDone, filled, ShownTake, takeTests, takeRefused, takeDone, taken}
-use Rattle.station.specs.declared.slot.CReason.{CReason}
-use Rattle.station.specs.Slots.{slotSaid, filledTold, takenTold}
-use Rattle.station.proofs.Slotted.{slot-kept}
+use Rattle.face_leaves.specs.declared.slot.CReason.{CReason}
+use Rattle.face_leaves.specs.Slots.{slotSaid, filledTold, takenTold}
+use Rattle.face_leaves.proofs.Slotted.{slot-kept}
 use Rattle.demands.specs.Leaves.{fillSaid, takeSaid, alignSaid, FillHeard, by-done-with, by-cattlecleat-done-with, TakeHeard}
 use Rattle.demands.specs.Leaves.{by-take-done-reason, by-cattlecleat-take-done-reason, AlignHeard, by-align-relative-to, by-cattlecleat-align}
 use Rattle.demands.specs.Leaves.{SlotsFilled, SlotsTaken, AddressesAligned}

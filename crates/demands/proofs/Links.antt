@@ -24,9 +24,9 @@ use Rattle.replay.specs.Turns.{ShownTurn, turnAt}
 use Rattle.replay.specs.Resumed.{DepthKept}
 use Rattle.replay.proofs.Spent.{RanVerdict, had-stopped, stops-before, goes-on, ran-verdict, recordCost, recordRan, stop-stays}
 use Rattle.listing.specs.Blocks.{blockRoom, ListedBlock, blockOf, blockWith, linesText, blockListed}
-use Rattle.station.specs.Runs.{runningFrom}
-use Rattle.station.specs.Told.{ToldAnswer, afterTold}
-use Rattle.station.proofs.Backs.{replay-run-said}
+use Rattle.face_ask.specs.Told.{ToldAnswer, afterTold}
+use Rattle.face_replay.specs.Runs.{runningFrom}
+use Rattle.face_replay.proofs.Backs.{replay-run-said}
 use Rattle.demands.specs.Heard.{worldSaid}
 use Rattle.demands.specs.Links.{eventsBy, eventsRan, entriesHere, entriesListed, Link, asked, by-host-store, by-routine, none-asked}
 use Rattle.demands.specs.Links.{put-in-place, by-cattlecleat-replay, by-replay, by-run-record, by-run-next, by-list-block}

@@ -16,15 +16,15 @@ use Rattle.rules.proofs.Kept.{register-sync-writes-no-word, register-sync-write
 use Rattle.request.specs.Requests.{recordFor}
 use Rattle.request.specs.Entries.{entriesIn}
 use Rattle.replay.specs.Running.{Running, answerTo, replayed}
-use Rattle.station.specs.declared.state.CState.{CState}
-use Rattle.station.specs.declared.requests.CRequest.{CRequest}
-use Rattle.station.specs.States.{stateTo}
-use Rattle.station.specs.Requests.{requestFrom, requestTo}
-use Rattle.station.specs.Told.{told, ToldAnswer, afterTold}
-use Rattle.station.specs.Parts.{partTold}
-use Rattle.station.specs.Runs.{RunTold, runningBack, runningFrom}
-use Rattle.station.proofs.Handed.{state-kept, request-kept}
-use Rattle.station.proofs.Backs.{running-said}
+use Rattle.face.specs.declared.state.CState.{CState}
+use Rattle.face.specs.declared.requests.CRequest.{CRequest}
+use Rattle.face.specs.States.{stateTo}
+use Rattle.face.specs.Requests.{requestFrom, requestTo}
+use Rattle.face.proofs.Handed.{state-kept, request-kept}
+use Rattle.face_ask.specs.Told.{told, ToldAnswer, afterTold}
+use Rattle.face_ask.specs.Parts.{partTold}
+use Rattle.face_replay.specs.Runs.{RunTold, runningBack, runningFrom}
+use Rattle.face_replay.proofs.Backs.{running-said}
 use Rattle.demands.specs.Heard.{worldSaid, Heard, by-cattlecleat-ask, by-cattlecleat-sync-registers, by-cattlecleat-host-part}
 use Rattle.demands.specs.Links.{eventsRan, by-put-registers, Link, asked, by-host-store, put-in-place, by-cattlecleat-replay}
 use Rattle.demands.specs.Links.{History, history-end, link-then}

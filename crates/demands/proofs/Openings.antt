@@ -6,8 +6,8 @@ use Prim.Native.Nat.{ℕ, _/_}
 use lib.ListN.{length}
 use Rattle.rules.specs.Open.{freshState, Opened, openedAs, openRefused, stackOpened}
 use Rattle.rules.proofs.Verdicts.{exactly-14, OpeningVerdict, opening-done, opening-refused, opening-verdict}
-use Rattle.station.specs.Told.{openingTold}
-use Rattle.station.proofs.Handed.{state-kept}
+use Rattle.face.proofs.Handed.{state-kept}
+use Rattle.face_ask.specs.Told.{openingTold}
 use Rattle.demands.specs.Openings.{openingSaid, OpeningHeard, by-open, by-cattlecleat-open, BeyondLimits, OpeningsAnswered}
 
 -- the numbers of an opening say it

@@ -19,9 +19,9 @@ use Rattle.rules.specs.Broken.{brokenState}
 use Rattle.rules.specs.Hosts.{partTests, partCells, partPlace}
 use Rattle.rules.specs.Returning.{Inside}
 use Rattle.rules.proofs.Confined.{handed-out-rises}
-use Rattle.station.specs.declared.parts.CPart.{CPart}
-use Rattle.station.specs.Parts.{partTold}
-use Rattle.station.proofs.Within.{part-within, part-is-lent}
+use Rattle.face_ask.specs.declared.parts.CPart.{CPart}
+use Rattle.face_ask.specs.Parts.{partTold}
+use Rattle.face_ask.proofs.Within.{part-within, part-is-lent}
 use Rattle.demands.specs.Heard.{worldSaid, routineWrites}
 use Rattle.demands.specs.Parts.{PartsInside, RoutineInside, LentAsTold, PartsTold}
 use Rattle.demands.proofs.Heard.{heard-answered}

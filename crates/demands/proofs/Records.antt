@@ -25,11 +25,11 @@ use Rattle.request.specs.Walk.{ShownNext, nextAsks, nextNone, nextAt, requestWr
 use Rattle.request.proofs.Exactly.{decoded-exactly-10, next-10, next-none}
 use Rattle.request.proofs.Nexts.{next-end}
 use Rattle.request.proofs.Trips.{request-reads-back}
-use Rattle.station.specs.declared.traces.CRead.{CRead}
-use Rattle.station.specs.Requests.{requestFrom, recordSpelt}
-use Rattle.station.specs.Records.{readTold, writtenBy}
-use Rattle.station.proofs.Spelt.{spelt-again}
-use Rattle.station.proofs.ReadBack.{request-back}
+use Rattle.face.specs.Requests.{requestFrom}
+use Rattle.face_leaves.specs.declared.records.CRead.{CRead}
+use Rattle.face_leaves.specs.Records.{readTold}
+use Rattle.face_leaves.proofs.Spelt.{spelt-again}
+use Rattle.face_leaves.proofs.ReadBack.{request-back}
 use Rattle.demands.specs.Records.{Unreadable, readSaid, ReadHeard, by-read-record, by-cattlecleat-read-record, WriteHeard, by-write-record}
 use Rattle.demands.specs.Records.{by-write-request, by-cattlecleat-write-record, NextHeard, by-next-request}
 use Rattle.demands.specs.Records.{RecordsRead, RecordsWritten, RequestsDecoded, RequestsWalked, RecordsReadBack, NumbersReadBack}

@@ -9,13 +9,13 @@ use Prim.Native.Nat.{_≤_}
 use denote.Ref.{now}
 use Rattle.request.specs.declared.Decoded.the-variants.{Bad}
 use Rattle.request.specs.Entries.{entriesIn}
-use Rattle.station.specs.declared.answers.CAnswer.{CAnswer}
-use Rattle.station.specs.declared.traces.CRun.{CRun}
-use Rattle.station.specs.Requests.{requestFrom}
-use Rattle.station.specs.Runs.{runningFrom, anyAccepted}
-use Rattle.station.proofs.cattlecleat_ask.Reads as c-ask
-use Rattle.station.proofs.cattlecleat_sync_registers.Reads as c-sync-registers
-use Rattle.station.proofs.cattlecleat_replay.Reads as c-replay
+use Rattle.face.specs.Requests.{requestFrom}
+use Rattle.face_ask.specs.declared.answers.CAnswer.{CAnswer}
+use Rattle.face_ask.proofs.cattlecleat_ask.Reads as c-ask
+use Rattle.face_ask.proofs.cattlecleat_sync_registers.Reads as c-sync-registers
+use Rattle.face_replay.specs.declared.traces.CRun.{CRun}
+use Rattle.face_replay.specs.Runs.{runningFrom, anyAccepted}
+use Rattle.face_replay.proofs.cattlecleat_replay.Reads as c-replay
 
 abbrev pub NumbersAsked : Type 0
 NumbersAsked = (κ : _) (a : _) (r : CAnswer) (e : _) → c-ask.Post κ a r e → r .number ≡ 10 ↔ requestFrom (a .1 .1 .1 .0) ≡ Bad

@@ -37,14 +37,14 @@ use Rattle.stack_hosts.proofs.host_inout.Reads as host-inout
 use Rattle.stack_hosts.proofs.return_prepare_host_frame.Reads as return-prepare-host-frame
 use Rattle.stack_hosts.proofs.call_host.Reads as call-host
 use Rattle.ask.proofs.ask.Reads as ask-any
-use Rattle.station.specs.declared.state.CState.{CState}
-use Rattle.station.specs.declared.answers.CAnswer.{CAnswer}
-use Rattle.station.specs.declared.parts.CPart.{CPart}
-use Rattle.station.specs.States.{stateFrom}
-use Rattle.station.specs.Requests.{requestFrom}
-use Rattle.station.proofs.cattlecleat_ask.Reads as c-ask
-use Rattle.station.proofs.cattlecleat_sync_registers.Reads as c-sync-registers
-use Rattle.station.proofs.cattlecleat_host_part.Reads as c-host-part
+use Rattle.face.specs.declared.state.CState.{CState}
+use Rattle.face.specs.States.{stateFrom}
+use Rattle.face.specs.Requests.{requestFrom}
+use Rattle.face_ask.specs.declared.answers.CAnswer.{CAnswer}
+use Rattle.face_ask.specs.declared.parts.CPart.{CPart}
+use Rattle.face_ask.proofs.cattlecleat_ask.Reads as c-ask
+use Rattle.face_ask.proofs.cattlecleat_sync_registers.Reads as c-sync-registers
+use Rattle.face_ask.proofs.cattlecleat_host_part.Reads as c-host-part
 
 -- ---- numbers
 

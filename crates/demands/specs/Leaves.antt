@@ -17,13 +17,12 @@ use Rattle.done.specs.declared.AfterTake.{AfterTake}
 use Rattle.done.specs.Done.{isFilled, ShownFill, shownFill, fillRefused, fillDone, ShownTake, shownTake, takeRefused, takeDone}
 use Rattle.done.proofs.DoneSlot.done_with.Reads as done-with
 use Rattle.done.proofs.DoneSlot.take_done_reason.Reads as take-done-reason
-use Rattle.station.specs.declared.slot.CReason.{CReason}
-use Rattle.station.specs.declared.slot.CDone.{CDone}
-use Rattle.station.specs.declared.leaves.CAligned.{CAligned}
-use Rattle.station.specs.Slots.{reasonSaid, slotSaid}
-use Rattle.station.proofs.cattlecleat_done_with.Reads as c-done-with
-use Rattle.station.proofs.cattlecleat_take_done_reason.Reads as c-take-done-reason
-use Rattle.station.proofs.cattlecleat_align.Reads as c-align
+use Rattle.face_leaves.specs.declared.slot.CDone.{CDone}
+use Rattle.face_leaves.specs.declared.leaves.CAligned.{CAligned}
+use Rattle.face_leaves.specs.Slots.{reasonSaid, slotSaid}
+use Rattle.face_leaves.proofs.cattlecleat_done_with.Reads as c-done-with
+use Rattle.face_leaves.proofs.cattlecleat_take_done_reason.Reads as c-take-done-reason
+use Rattle.face_leaves.proofs.cattlecleat_align.Reads as c-align
 
 -- ---- what the numbers of an answer say
 

@@ -36,18 +36,18 @@ use Rattle.replay.proofs.run_next.Reads as turns
 use Rattle.listing.specs.declared.block.Listed.{Listed}
 use Rattle.listing.specs.Blocks.{blockRoom}
 use Rattle.listing.proofs.list_block.Reads as lists
-use Rattle.station.specs.declared.state.CState.{CState}
-use Rattle.station.specs.declared.answers.CAnswer.{CAnswer}
-use Rattle.station.specs.declared.traces.CRun.{CRun}
-use Rattle.station.specs.Requests.{requestFrom}
-use Rattle.station.specs.Runs.{runningFrom}
-use Rattle.station.proofs.cattlecleat_ask.Reads as c-ask
-use Rattle.station.proofs.cattlecleat_replay.Reads as c-replay
-use Rattle.station.proofs.cattlecleat_put_ireg as c-put-ireg
-use Rattle.station.proofs.cattlecleat_put_freg32 as c-put-freg32
-use Rattle.station.proofs.cattlecleat_put_freg64 as c-put-freg64
-use Rattle.station.proofs.cattlecleat_put_registers as c-put-registers
-use Rattle.station.proofs.cattlecleat_zero_registers as c-zero-registers
+use Rattle.face.specs.declared.state.CState.{CState}
+use Rattle.face.specs.Requests.{requestFrom}
+use Rattle.face_leaves.proofs.cattlecleat_put_ireg as c-put-ireg
+use Rattle.face_leaves.proofs.cattlecleat_put_freg32 as c-put-freg32
+use Rattle.face_leaves.proofs.cattlecleat_put_freg64 as c-put-freg64
+use Rattle.face_leaves.proofs.cattlecleat_put_registers as c-put-registers
+use Rattle.face_leaves.proofs.cattlecleat_zero_registers as c-zero-registers
+use Rattle.face_ask.specs.declared.answers.CAnswer.{CAnswer}
+use Rattle.face_ask.proofs.cattlecleat_ask.Reads as c-ask
+use Rattle.face_replay.specs.declared.traces.CRun.{CRun}
+use Rattle.face_replay.specs.Runs.{runningFrom}
+use Rattle.face_replay.proofs.cattlecleat_replay.Reads as c-replay
 use Rattle.demands.specs.Heard.{worldSaid, Heard, RoutineHeard, routineWrites}
 
 -- ---- the records of a trace

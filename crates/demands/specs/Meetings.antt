@@ -13,8 +13,8 @@ use Rattle.rules.specs.Returning.{NeverBelow}
 use Rattle.request.specs.Entries.{entriesIn}
 use Rattle.replay.specs.Running.{replayed}
 use Rattle.replay.specs.Resumed.{DepthKept}
-use Rattle.station.specs.declared.traces.CRun.{CRun}
-use Rattle.station.specs.Runs.{runningFrom}
+use Rattle.face_replay.specs.declared.traces.CRun.{CRun}
+use Rattle.face_replay.specs.Runs.{runningFrom}
 use Rattle.demands.specs.Heard.{worldSaid, Heard}
 use Rattle.demands.specs.Links.{eventsRan, Link, History}
 

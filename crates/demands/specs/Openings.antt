@@ -15,9 +15,9 @@ use Rattle.rules.specs.Answers.{shownOf}
 use Rattle.rules.specs.Broken.{maxDepth, maxCells}
 use Rattle.rules.specs.Open.{maxBytes, freshState, Opened, openedAs, openRefused, shownOpening}
 use Rattle.stack.proofs.open.Reads as opens-stack
-use Rattle.station.specs.declared.answers.CAnswer.{CAnswer}
-use Rattle.station.specs.States.{stateFrom}
-use Rattle.station.proofs.cattlecleat_open.Reads as c-open
+use Rattle.face.specs.States.{stateFrom}
+use Rattle.face_ask.specs.declared.answers.CAnswer.{CAnswer}
+use Rattle.face_ask.proofs.cattlecleat_open.Reads as c-open
 use Rattle.demands.specs.Heard.{valuesSaid}
 
 abbrev pub openingSaid : CAnswer → Opened

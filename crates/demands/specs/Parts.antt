@@ -16,8 +16,8 @@ use Rattle.rules.specs.Answers.{After}
 use Rattle.rules.specs.Hosts.{partCells, partPlace}
 use Rattle.rules.specs.Returning.{Inside}
 use Rattle.stack_hosts.proofs.host_results.Reads as host-results
-use Rattle.station.specs.declared.parts.CPart.{CPart}
-use Rattle.station.proofs.cattlecleat_host_part.Reads as c-host-part
+use Rattle.face_ask.specs.declared.parts.CPart.{CPart}
+use Rattle.face_ask.proofs.cattlecleat_host_part.Reads as c-host-part
 use Rattle.demands.specs.Heard.{worldSaid, Heard, routineWrites}
 
 -- a is what it was called with: the state, the words, the cells and the host's frame; r is the part. The part begins at the frame's start, and whatever

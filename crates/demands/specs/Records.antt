@@ -29,10 +29,11 @@ use Rattle.request.specs.Walk.{shownDecoded, ShownNext, nextAsks, nextNone, sho
 use Rattle.request.proofs.request_of.Reads as request-of
 use Rattle.request.proofs.next_request.Reads as next-request
 use Rattle.request.proofs.write_request.Reads as write-request
-use Rattle.station.specs.declared.traces.CRead.{CRead}
-use Rattle.station.specs.Requests.{requestFrom, recordSpelt}
-use Rattle.station.proofs.cattlecleat_read_record.Reads as c-read-record
-use Rattle.station.proofs.cattlecleat_write_record.Reads as c-write-record
+use Rattle.face.specs.Requests.{requestFrom}
+use Rattle.face_leaves.specs.declared.records.CRead.{CRead}
+use Rattle.face_leaves.specs.Spelt.{recordSpelt}
+use Rattle.face_leaves.proofs.cattlecleat_read_record.Reads as c-read-record
+use Rattle.face_leaves.proofs.cattlecleat_write_record.Reads as c-write-record
 
 abbrev pub Unreadable : List ℕ → (at : ℕ) → Type 0
 Unreadable bytes at =

@@ -14,8 +14,8 @@ use Rattle.rules.specs.World.{World}
 use Rattle.rules.specs.Answers.{After}
 use Rattle.rules.specs.Events.{Event, AllKeepRegisters}
 use Rattle.rules.specs.Returning.{Accepted}
-use Rattle.station.specs.States.{stateFrom}
-use Rattle.station.proofs.cattlecleat_read_registers.Reads as c-read-registers
+use Rattle.face.specs.States.{stateFrom}
+use Rattle.face_leaves.proofs.cattlecleat_read_registers.Reads as c-read-registers
 use Rattle.demands.specs.Heard.{Heard}
 use Rattle.demands.specs.Links.{History}
 

@@ -1,8 +1,8 @@
 // A state as the numbers that a line tells, and back: D, M, words, L, count, len, flag and number of the current instance, the integer register, and
 // the bits of the two floats.
+use face::CState;
+use face_leaves::cattlecleat_read_registers;
 use regs::Registers;
-use station::CState;
-use station::cattlecleat_read_registers;
 use vector_text::floats::double_bits;
 use vector_text::floats::double_of;
 use vector_text::floats::single_bits;

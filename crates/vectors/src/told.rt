@@ -1,9 +1,9 @@
 // What the C face answers, as the numbers that a line tells.
 use crate::states::state_told;
-use station::CAnswer;
-use station::CPart;
-use station::CRead;
-use station::CRun;
+use face_ask::CAnswer;
+use face_ask::CPart;
+use face_leaves::CRead;
+use face_replay::CRun;
 use vector_text::floats::double_bits;
 use vector_text::floats::single_bits;
 use vector_text::tokens::BAR;

@@ -1,0 +1,12 @@
+-- `face::requests::replace_from` meets its contract. Assumes nothing.
+use borrow.Author.Needs.{needs}
+use Rattle.face.proofs.requests.replace_from.Statement.{statement}
+use Rattle.face.proofs.requests.replace_from.Tie as tie
+
+pub replace-from-spec : {M : Type 1} → statement M
+replace-from-spec =
+    tie.close
+    (tie.spec
+    (λ c κs. search needs)
+    (λ c κs. search needs)
+    (λ c. rw (c .given-if .ensures, c .before .to-bool .ensures)))

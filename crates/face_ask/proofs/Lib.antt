@@ -1,0 +1,4 @@
+pub mod Lent
+pub mod Settled
+pub mod Telling
+pub mod Within

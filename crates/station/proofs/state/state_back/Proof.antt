@@ -1,7 +1,0 @@
--- `station::state::state_back` meets its contract. Assumes nothing.
-use borrow.Author.Needs.{needs}
-use Rattle.station.proofs.state.state_back.Statement.{statement}
-use Rattle.station.proofs.state.state_back.Tie as tie
-
-pub state-back-spec : {M : Type 1} → statement M
-state-back-spec = tie.close (tie.spec (λ c κs. search needs) (λ c. rw (c .flagged-back .ensures)))

@@ -83,12 +83,18 @@ use Rattle.cells.proofs.return_prepare_host_frame as cells-return-prepare-host-
 use Rattle.cells.proofs.set_cell as cells-set-cell
 use Rattle.cells.proofs.store_results as cells-store-results
 use Rattle.record.proofs.is_lawful as record-is-lawful
+use Rattle.record.proofs.keeps_row as record-keeps-row
+use Rattle.record.proofs.read_fields as record-read-fields
 use Rattle.record.proofs.read_record as record-read-record
 use Rattle.record.proofs.write_record as record-write-record
+use Rattle.request.proofs.host_in as request-host-in
 use Rattle.request.proofs.next_request as request-next-request
 use Rattle.request.proofs.place_after as request-place-after
+use Rattle.request.proofs.push_in as request-push-in
 use Rattle.request.proofs.record_of as request-record-of
+use Rattle.request.proofs.replace_in as request-replace-in
 use Rattle.request.proofs.request_of as request-request-of
+use Rattle.request.proofs.return_host_in as request-return-host-in
 use Rattle.request.proofs.write_request as request-write-request
 use Rattle.reader.proofs.advance as reader-advance
 use Rattle.reader.proofs.hand_out as reader-hand-out
@@ -153,8 +159,6 @@ use Rattle.lines.proofs.write_line as lines-write-line
 use Rattle.lines.proofs.write_spent as lines-write-spent
 use Rattle.lines.proofs.write_stopped as lines-write-stopped
 use Rattle.ask.proofs.ask as ask-ask
-use Rattle.ask.proofs.judge as ask-judge
-use Rattle.ask.proofs.step as ask-step
 use Rattle.replay.proofs.cost_of as replay-cost-of
 use Rattle.replay.proofs.replay as replay-replay
 use Rattle.replay.proofs.run_next as replay-run-next
@@ -1012,6 +1016,34 @@ settled-record-is-lawful = record {
       (s, refl);
 }
 
+pub settled-record-keeps-row :
+    Settled record-keeps-row.ended (λ M. record-keeps-row.clauses {M = M}) (λ κ r. r)
+settled-record-keeps-row = record {
+  Post = λ κ a r e. _;
+  asks-nothing = λ M 𝓤 H A mem run κ a g. refl;
+  asks-no-ghost = λ M 𝓤 H A mem run κ a. refl;
+  promises = λ M 𝓤 H A mem run κ a g r e. refl;
+  once = λ κ a r r′ ws ws′ p q.
+      let e = atExit record-keeps-row.ended κ a ws in
+      let e′ = atExit record-keeps-row.ended κ a ws′ in
+      let s = record-all.keeps-row-settled κ a r r′ e e′ p q in
+      (s, refl);
+}
+
+pub settled-record-read-fields :
+    Settled record-read-fields.ended (λ M. record-read-fields.clauses {M = M}) (λ κ r. r)
+settled-record-read-fields = record {
+  Post = λ κ a r e. _;
+  asks-nothing = λ M 𝓤 H A mem run κ a g. refl;
+  asks-no-ghost = λ M 𝓤 H A mem run κ a. refl;
+  promises = λ M 𝓤 H A mem run κ a g r e. refl;
+  once = λ κ a r r′ ws ws′ p q.
+      let e = atExit record-read-fields.ended κ a ws in
+      let e′ = atExit record-read-fields.ended κ a ws′ in
+      let s = record-all.read-fields-settled κ a r r′ e e′ p q in
+      (s, refl);
+}
+
 pub settled-record-read-record :
     Settled record-read-record.ended (λ M. record-read-record.clauses {M = M}) (λ κ r. r)
 settled-record-read-record = record {
@@ -1038,6 +1070,20 @@ settled-record-write-record = record {
       let e′ = atExit record-write-record.ended κ a ws′ in
       let s = record-all.write-record-settled κ a r r′ e e′ p q in
       (λ i. s i .0, λ i. (at-last (a .0) (s i .1), (a .1 .0, (a .1 .1 .0, tt))));
+}
+
+pub settled-request-host-in :
+    Settled request-host-in.ended (λ M. request-host-in.clauses {M = M}) (λ κ r. r)
+settled-request-host-in = record {
+  Post = λ κ a r e. _;
+  asks-nothing = λ M 𝓤 H A mem run κ a g. refl;
+  asks-no-ghost = λ M 𝓤 H A mem run κ a. refl;
+  promises = λ M 𝓤 H A mem run κ a g r e. refl;
+  once = λ κ a r r′ ws ws′ p q.
+      let e = atExit request-host-in.ended κ a ws in
+      let e′ = atExit request-host-in.ended κ a ws′ in
+      let s = request-all.host-in-settled κ a r r′ e e′ p q in
+      (s, refl);
 }
 
 pub settled-request-next-request :
@@ -1068,6 +1114,20 @@ settled-request-place-after = record {
       (s, refl);
 }
 
+pub settled-request-push-in :
+    Settled request-push-in.ended (λ M. request-push-in.clauses {M = M}) (λ κ r. r)
+settled-request-push-in = record {
+  Post = λ κ a r e. _;
+  asks-nothing = λ M 𝓤 H A mem run κ a g. refl;
+  asks-no-ghost = λ M 𝓤 H A mem run κ a. refl;
+  promises = λ M 𝓤 H A mem run κ a g r e. refl;
+  once = λ κ a r r′ ws ws′ p q.
+      let e = atExit request-push-in.ended κ a ws in
+      let e′ = atExit request-push-in.ended κ a ws′ in
+      let s = request-all.push-in-settled κ a r r′ e e′ p q in
+      (s, refl);
+}
+
 pub settled-request-record-of :
     Settled request-record-of.ended (λ M. request-record-of.clauses {M = M}) (λ κ r. r)
 settled-request-record-of = record {
@@ -1082,6 +1142,20 @@ settled-request-record-of = record {
       (s, refl);
 }
 
+pub settled-request-replace-in :
+    Settled request-replace-in.ended (λ M. request-replace-in.clauses {M = M}) (λ κ r. r)
+settled-request-replace-in = record {
+  Post = λ κ a r e. _;
+  asks-nothing = λ M 𝓤 H A mem run κ a g. refl;
+  asks-no-ghost = λ M 𝓤 H A mem run κ a. refl;
+  promises = λ M 𝓤 H A mem run κ a g r e. refl;
+  once = λ κ a r r′ ws ws′ p q.
+      let e = atExit request-replace-in.ended κ a ws in
+      let e′ = atExit request-replace-in.ended κ a ws′ in
+      let s = request-all.replace-in-settled κ a r r′ e e′ p q in
+      (s, refl);
+}
+
 pub settled-request-request-of :
     Settled request-request-of.ended (λ M. request-request-of.clauses {M = M}) (λ κ r. r)
 settled-request-request-of = record {
@@ -1093,6 +1167,20 @@ settled-request-request-of = record {
       let e = atExit request-request-of.ended κ a ws in
       let e′ = atExit request-request-of.ended κ a ws′ in
       let s = request-all.request-of-settled κ a r r′ e e′ p q in
+      (s, refl);
+}
+
+pub settled-request-return-host-in :
+    Settled request-return-host-in.ended (λ M. request-return-host-in.clauses {M = M}) (λ κ r. r)
+settled-request-return-host-in = record {
+  Post = λ κ a r e. _;
+  asks-nothing = λ M 𝓤 H A mem run κ a g. refl;
+  asks-no-ghost = λ M 𝓤 H A mem run κ a. refl;
+  promises = λ M 𝓤 H A mem run κ a g r e. refl;
+  once = λ κ a r r′ ws ws′ p q.
+      let e = atExit request-return-host-in.ended κ a ws in
+      let e′ = atExit request-return-host-in.ended κ a ws′ in
+      let s = request-all.return-host-in-settled κ a r r′ e e′ p q in
       (s, refl);
 }
 
@@ -1990,34 +2078,6 @@ settled-ask-ask = record {
       let e′ = atExit ask-ask.ended κ a ws′ in
       let s = ask-all.ask-settled κ a r r′ e e′ p q in
       (λ i. s i .0, λ i. (a .0, (at-last (a .1 .0) (s i .1 .0), (at-last (a .1 .1 .0) (s i .1 .1), (a .1 .1 .1 .0, tt)))));
-}
-
-pub settled-ask-judge :
-    Settled ask-judge.ended (λ M. ask-judge.clauses {M = M}) (λ κ r. r)
-settled-ask-judge = record {
-  Post = λ κ a r e. _;
-  asks-nothing = λ M 𝓤 H A mem run κ a g. refl;
-  asks-no-ghost = λ M 𝓤 H A mem run κ a. refl;
-  promises = λ M 𝓤 H A mem run κ a g r e. refl;
-  once = λ κ a r r′ ws ws′ p q.
-      let e = atExit ask-judge.ended κ a ws in
-      let e′ = atExit ask-judge.ended κ a ws′ in
-      let s = ask-all.judge-settled κ a r r′ e e′ p q in
-      (s, refl);
-}
-
-pub settled-ask-step :
-    Settled ask-step.ended (λ M. ask-step.clauses {M = M}) (λ κ r. r)
-settled-ask-step = record {
-  Post = λ κ a r e. _;
-  asks-nothing = λ M 𝓤 H A mem run κ a g. refl;
-  asks-no-ghost = λ M 𝓤 H A mem run κ a. refl;
-  promises = λ M 𝓤 H A mem run κ a g r e. refl;
-  once = λ κ a r r′ ws ws′ p q.
-      let e = atExit ask-step.ended κ a ws in
-      let e′ = atExit ask-step.ended κ a ws′ in
-      let s = ask-all.step-settled κ a r r′ e e′ p q in
-      (λ i. s i .0, λ i. (a .0, (at-last (a .1 .0) (s i .1 .0), (at-last (a .1 .1 .0) (s i .1 .1), (a .1 .1 .1 .0, (a .1 .1 .1 .1 .0, tt))))));
 }
 
 pub settled-replay-cost-of :

@@ -31,7 +31,7 @@ use Rattle.replay.specs.declared.flat.Moving.{Moving}
 use Rattle.replay.specs.declared.flat.Went.{Went}
 use Rattle.replay.specs.Costs.{workOf}
 use Rattle.replay.specs.Running.{runningOf, nothingRan, stoppedBefore, ranWith, wentOn, shownRan, ranAt, ranOn}
-use Rattle.replay.specs.Packing.{stateWith, runAgain, ranAgain, wentOnWith, wentStopped, wentRefused}
+use Rattle.replay.specs.Packing.{stateAgain, runAgain, ranAgain, wentOnWith, wentStopped, wentRefused}
 use Rattle.replay.proofs.Packing.{SameLimits, went-says}
 use Rattle.replay.proofs.Records.{ran-stops, ran-goes, ran-refused, ran-accepted, ran-bad}
 
@@ -49,7 +49,7 @@ limits-kept w (Set head cell) room = (refl, refl, refl, refl)
 
 module _ (f : Fixed) (m : Moving) (words cells : List ℕ) where
   abbrev at-first : World
-  at-first = worldOf (stateWith f m) words cells
+  at-first = worldOf (stateAgain f m) words cells
 
   -- ---- refused
   refused-says : (number : ℕ) → shownRan (ranAgain f (wentRefused f m number)) words cells ≡ ranAt (runningOf (runAgain f m) words cells) (refusedWith at-first number) 1
@@ -57,16 +57,16 @@ module _ (f : Fixed) (m : Moving) (words cells : List ℕ) where
   refused-says number = by (ltb (f .fuel - m .spent) 1)
     where
       by : (short : Bool)
-          → shownRan (ranAgain f (choose short (wentStopped m 1) (wentOnWith m (stateWith f m) (m .spent + 1) number 0))) words cells
+          → shownRan (ranAgain f (choose short (wentStopped m 1) (wentOnWith m (stateAgain f m) (m .spent + 1) number 0))) words cells
           ≡ choose short (nothingRan (stoppedBefore (runningOf (runAgain f m) words cells) 1)) (ranWith (wentOn (runningOf (runAgain f m) words cells) at-first 1) number 0)
       by true = refl
-      by false = ap (λ x. shownRan x words cells) (went-says f m (stateWith f m) (refl, refl, refl, refl) (m .spent + 1) number 0)
+      by false = ap (λ x. shownRan x words cells) (went-says f m (stateAgain f m) (refl, refl, refl, refl) (m .spent + 1) number 0)
 
   pub arm-bad : (x : Went) → x ≡ wentRefused f m 10 → shownRan (ranAgain f x) words cells ≡ ranOn (runningOf (runAgain f m) words cells) Bad
   arm-bad x e = ap (λ x. shownRan (ranAgain f x) words cells) e ∙ refused-says 10 ∙ ran-bad _
 
   -- ---- judged; s is the state that the judgement was given
-  module _ (q : Request) (s : State) (same : s ≡ stateWith f m) (j : Judgement)
+  module _ (q : Request) (s : State) (same : s ≡ stateAgain f m) (j : Judgement)
       (e : shownJudgement j ≡ judged (testsOf (worldOf s words cells) (Traced q)) (roomFor (worldOf s words cells) (Traced q)))
     where
       judged-so : shownJudgement j ≡ judged (testsOf at-first (Traced q)) (roomFor at-first (Traced q))
@@ -91,14 +91,14 @@ module _ (f : Fixed) (m : Moving) (words cells : List ℕ) where
     arm-stops x e h = ran-stops (runAgain f m) words cells effect cost (ranAgain f x) (ap (ranAgain f) e) h ∙ ap (ranAt (runningOf (runAgain f m) words cells) effect) costs
 
     -- out is what the step of state s gave
-    pub arm-goes : (s : State) → s ≡ stateWith f m → (out : Outcome) (ws cs : List ℕ) → shownOutcome out ws cs ≡ effectIn (worldOf s words cells) (Traced q) room
+    pub arm-goes : (s : State) → s ≡ stateAgain f m → (out : Outcome) (ws cs : List ℕ) → shownOutcome out ws cs ≡ effectIn (worldOf s words cells) (Traced q) room
         → (number offset : ℕ) → number ≡ shownAnswer (out .answer) .number → offset ≡ shownAnswer (out .answer) .values .offset
         → (x : Went) → x ≡ wentOnWith m (out .state) (m .spent + cost) number offset → cost ≤ f .fuel - m .spent
         → shownRan (ranAgain f x) ws cs ≡ ranAt (runningOf (runAgain f m) words cells) effect (1 + workOf q)
     arm-goes s same out ws cs e number offset n o x p h =
         let stepped : shownOutcome out ws cs ≡ effect = e ∙ ap (λ (s : State). effectIn (worldOf s words cells) (Traced q) room) same in
         let kept = limits-kept at-first q room in
-        let limits : SameLimits (out .state) (stateWith f m) = (
+        let limits : SameLimits (out .state) (stateAgain f m) = (
           ap (λ (t : After). t .world .state .depth) stepped ∙ kept .0,
           ap (λ (t : After). t .world .state .height) stepped ∙ kept .1,
           ap (λ (t : After). t .world .state .words) stepped ∙ kept .2,

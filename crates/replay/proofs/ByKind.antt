@@ -29,8 +29,8 @@ use Rattle.request.proofs.Nexts.{next-found, next-bad}
 use Rattle.request.proofs.Entries.{entry-asks, entry-bad}
 use Rattle.replay.specs.ByKind.{entryFor}
 
-one-less : (n k : ℕ) → n ≤ k + 1 → (n ≡ k + 1 → ⊥) → n ≤ k
-one-less n k h ne = omega arith
+peeled : (n k : ℕ) → n ≤ k + 1 → (n ≡ k + 1 → ⊥) → n ≤ k
+peeled n k h ne = omega arith
 
 module _ (r : Record) where
   pub broken-says : (k : ℕ) → r .kind ≡ k → (b : Bool) → b ≡ lawfulAs (codedRow (rowOfKind k)) r → b ≡ false → Bad ≡ entryFor r
@@ -85,7 +85,7 @@ module _ (r : Record) where
       by (yes more) = kind-beyond r more
       by (no less) =
           let last : r .kind ≤ 9 = omega arith in
-          let none = one-less _ 0 (one-less _ 1 (one-less _ 2 (one-less _ 3 (one-less _ 4 (one-less _ 5 (one-less _ 6 (one-less _ 7 (one-less _ 8 last i) h) g) f) e) d) c) b) a in
+          let none = peeled _ 0 (peeled _ 1 (peeled _ 2 (peeled _ 3 (peeled _ 4 (peeled _ 5 (peeled _ 6 (peeled _ 7 (peeled _ 8 last i) h) g) f) e) d) c) b) a in
           kind-zero r (omega (arith, none))
 
   pub no-kind-says : (r .kind ≡ 1 → ⊥) → (r .kind ≡ 2 → ⊥) → (r .kind ≡ 3 → ⊥) → (r .kind ≡ 4 → ⊥) → (r .kind ≡ 5 → ⊥) → (r .kind ≡ 6 → ⊥) → (r .kind ≡ 7 → ⊥)

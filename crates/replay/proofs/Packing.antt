@@ -18,7 +18,7 @@ use Rattle.replay.specs.declared.flat.Fixed.{Fixed}
 use Rattle.replay.specs.declared.flat.Moving.{Moving}
 use Rattle.replay.specs.declared.flat.Went.{Went}
 use Rattle.replay.specs.Running.{runningOf, runWith, nextNumber, runMoved, ranBy, shownRan, ranOn, ran}
-use Rattle.replay.specs.Packing.{fixedIn, movingIn, stateWith, runAgain, ranAgain, numberOr, wentOnWith, PartsAgain}
+use Rattle.replay.specs.Packing.{fixedIn, movingIn, stateAgain, runAgain, ranAgain, numberOr, wentOnWith, PartsAgain}
 use Rattle.replay.proofs.Records.{ran-on}
 
 not-stopped : (g : Given) → isGiven g ≡ false → Absent ≡ g
@@ -47,7 +47,7 @@ number-kept (Value n) was = refl
 abbrev pub SameLimits : State → State → Type 0
 SameLimits s t = (s .depth ≡ t .depth) × (s .height ≡ t .height) × (s .words ≡ t .words) × (s .cells ≡ t .cells)
 
-pub went-says : (f : Fixed) (m : Moving) (s : State) → SameLimits s (stateWith f m) → (spent answer offset : ℕ)
+pub went-says : (f : Fixed) (m : Moving) (s : State) → SameLimits s (stateAgain f m) → (spent answer offset : ℕ)
     → ranAgain f (wentOnWith m s spent answer offset) ≡ ranBy (runMoved (runAgain f m) s spent) answer offset
 went-says f m s k spent answer offset = λ i. ranBy
     (runWith

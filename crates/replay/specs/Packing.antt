@@ -1,7 +1,7 @@
 -- A run as the loop carries it: what no record changes, what a record may change, and what a record leaves. Nothing here has to be believed: it is cited by
 -- private functions alone.
 --     fixedIn r, movingIn r              the two parts of a run that has not stopped
---     stateWith f m, runAgain f m        the state and the run that two parts make
+--     stateAgain f m, runAgain f m        the state and the run that two parts make
 --     ranAgain f w                       the run after a record, with what is answered
 --     wentOnWith, wentStopped            a record was run; the run stopped before it
 --     wentRefused f m number             a record that is refused, at a cost of 1
@@ -41,8 +41,8 @@ movingWith s current number spent = record {
 abbrev pub movingIn : Run → Moving
 movingIn r = movingWith (r .state) (givenNumber (r .state .current)) (r .number) (r .spent)
 
-abbrev pub stateWith : Fixed → Moving → State
-stateWith f m = record {
+abbrev pub stateAgain : Fixed → Moving → State
+stateAgain f m = record {
   depth = f .depth;
   height = f .height;
   words = f .words;
@@ -54,7 +54,7 @@ stateWith f m = record {
 }
 
 abbrev pub runStops : Fixed → Moving → (stop : Given) → Run
-runStops f m stop = runWith (stateWith f m) (m .number) (f .fuel) (m .spent) stop
+runStops f m stop = runWith (stateAgain f m) (m .number) (f .fuel) (m .spent) stop
 
 abbrev pub runAgain : Fixed → Moving → Run
 runAgain f m = runStops f m Absent
@@ -80,7 +80,7 @@ abbrev pub wentStopped : Moving → (cost : ℕ) → Went
 wentStopped m cost = record { moving = m; stopped = true; cost = cost; answer = 0; offset = 0 }
 
 unfoldable pub wentRefused : Fixed → Moving → (number : ℕ) → Went
-wentRefused f m number = choose (ltb (f .fuel - m .spent) 1) (wentStopped m 1) (wentOnWith m (stateWith f m) (m .spent + 1) number 0)
+wentRefused f m number = choose (ltb (f .fuel - m .spent) 1) (wentStopped m 1) (wentOnWith m (stateAgain f m) (m .spent + 1) number 0)
 
 abbrev pub PartsAgain : Type 0
 PartsAgain = (r : Run) → isGiven (r .stop) ≡ false → runAgain (fixedIn r) (movingIn r) ≡ r

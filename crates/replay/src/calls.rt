@@ -7,7 +7,7 @@ ghost use Rattle.rules.specs.declared.Asked.the-variants.{Traced};
 ghost use Rattle.rules.specs.Rules.{effectIn};
 ghost use Rattle.request.specs.declared.Decoded.the-variants.{Asks};
 ghost use Rattle.replay.specs.Costs.{workOf};
-ghost use Rattle.replay.specs.Packing.{stateWith, runAgain, ranAgain};
+ghost use Rattle.replay.specs.Packing.{stateAgain, runAgain, ranAgain};
 ghost use Rattle.replay.specs.Running.{runningOf, shownRan, ranAt, ranOn};
 ghost use Rattle.replay.specs.ByKind.{entryFor};
 use crate::cost::cost_of;
@@ -16,7 +16,7 @@ use crate::flat::Moving;
 use crate::flat::Went;
 use crate::flat::left_of;
 use crate::flat::refused_at;
-use crate::flat::state_with;
+use crate::flat::state_again;
 use crate::flat::stopped_before;
 use crate::flat::went_on;
 use record::BAD_RECORD;
@@ -71,7 +71,7 @@ pub(crate) fn run_push(
     ensures { λ r. ⌜ shownRan (ranAgain f r) (now (words .exit)) (now (cells .exit))
         ≡ ranOn (runningOf (runAgain f m) (now (words .entry)) (now (cells .entry))) (Asks (Push q)) ⌝ }
 {
-    let s = state_with(f, m);
+    let s = state_again(f, m);
     match judge_push(s, words, cells, q) {
         Judgement::Refuse(why) => refused_at(f, m, refusal_number(why)),
         Judgement::Accept(room) => push_in_room(f, m, words, cells, q, room),
@@ -88,7 +88,7 @@ fn push_in_room(
 ) -> Went
     ensures { λ r. ⌜ shownRan (ranAgain f r) (now (words .exit)) (now (cells .exit))
         ≡ ranAt (runningOf (runAgain f m) (now (words .entry)) (now (cells .entry)))
-        (effectIn (worldOf (stateWith f m) (now (words .entry)) (now (cells .entry))) (Traced (Push q)) room) (1 + workOf (Push q)) ⌝ }
+        (effectIn (worldOf (stateAgain f m) (now (words .entry)) (now (cells .entry))) (Traced (Push q)) room) (1 + workOf (Push q)) ⌝ }
 {
     let spent = m.spent;
     let cost = cost_of(Request::Push(q));
@@ -96,7 +96,7 @@ fn push_in_room(
         return stopped_before(m, cost);
     }
     let total = spent + cost;
-    let s = state_with(f, m);
+    let s = state_again(f, m);
     let out = step_push(s, words, cells, q, room);
     let answer = out.answer;
     went_on(
@@ -131,7 +131,7 @@ pub(crate) fn run_pop(
     ensures { λ r. ⌜ shownRan (ranAgain f r) (now (words .exit)) (now (cells .exit))
         ≡ ranOn (runningOf (runAgain f m) (now (words .entry)) (now (cells .entry))) (Asks (Pop instance)) ⌝ }
 {
-    let s = state_with(f, m);
+    let s = state_again(f, m);
     match judge_pop(s, words, cells) {
         Judgement::Refuse(why) => refused_at(f, m, refusal_number(why)),
         Judgement::Accept(room) => pop_in_room(f, m, words, cells, instance, room),
@@ -148,7 +148,7 @@ fn pop_in_room(
 ) -> Went
     ensures { λ r. ⌜ shownRan (ranAgain f r) (now (words .exit)) (now (cells .exit))
         ≡ ranAt (runningOf (runAgain f m) (now (words .entry)) (now (cells .entry)))
-        (effectIn (worldOf (stateWith f m) (now (words .entry)) (now (cells .entry))) (Traced (Pop instance)) room) (1 + workOf (Pop instance)) ⌝ }
+        (effectIn (worldOf (stateAgain f m) (now (words .entry)) (now (cells .entry))) (Traced (Pop instance)) room) (1 + workOf (Pop instance)) ⌝ }
 {
     let spent = m.spent;
     let cost = cost_of(Request::Pop(instance));
@@ -156,7 +156,7 @@ fn pop_in_room(
         return stopped_before(m, cost);
     }
     let total = spent + cost;
-    let s = state_with(f, m);
+    let s = state_again(f, m);
     let out = step_pop(s, words, cells, instance, room);
     let answer = out.answer;
     went_on(
@@ -197,7 +197,7 @@ pub(crate) fn run_replace(
     ensures { λ r. ⌜ shownRan (ranAgain f r) (now (words .exit)) (now (cells .exit))
         ≡ ranOn (runningOf (runAgain f m) (now (words .entry)) (now (cells .entry))) (Asks (Replace q)) ⌝ }
 {
-    let s = state_with(f, m);
+    let s = state_again(f, m);
     match judge_replace(s, words, cells, q) {
         Judgement::Refuse(why) => refused_at(f, m, refusal_number(why)),
         Judgement::Accept(room) => replace_in_room(f, m, words, cells, q, room),
@@ -214,7 +214,7 @@ fn replace_in_room(
 ) -> Went
     ensures { λ r. ⌜ shownRan (ranAgain f r) (now (words .exit)) (now (cells .exit))
         ≡ ranAt (runningOf (runAgain f m) (now (words .entry)) (now (cells .entry)))
-        (effectIn (worldOf (stateWith f m) (now (words .entry)) (now (cells .entry))) (Traced (Replace q)) room) (1 + workOf (Replace q)) ⌝ }
+        (effectIn (worldOf (stateAgain f m) (now (words .entry)) (now (cells .entry))) (Traced (Replace q)) room) (1 + workOf (Replace q)) ⌝ }
 {
     let spent = m.spent;
     let cost = cost_of(Request::Replace(q));
@@ -222,7 +222,7 @@ fn replace_in_room(
         return stopped_before(m, cost);
     }
     let total = spent + cost;
-    let s = state_with(f, m);
+    let s = state_again(f, m);
     let out = step_replace(s, words, cells, q, room);
     let answer = out.answer;
     went_on(

@@ -3,7 +3,7 @@
 ghost use mathlib.Core.Path.{_≡_};
 ghost use Prim.Native.Nat.{_-_};
 ghost use Rattle.rules.specs.World.{worldOf};
-ghost use Rattle.replay.specs.Packing.{fixedIn, movingIn, stateWith, runAgain, ranAgain, numberOr, wentOnWith, wentStopped, wentRefused};
+ghost use Rattle.replay.specs.Packing.{fixedIn, movingIn, stateAgain, runAgain, ranAgain, numberOr, wentOnWith, wentStopped, wentRefused};
 use crate::run::Ran;
 use crate::run::Run;
 use given::Given;
@@ -75,8 +75,8 @@ pub(crate) fn moving_in(run: Run) -> Moving
     }
 }
 
-pub(crate) fn state_with(f: Fixed, m: Moving) -> State
-    ensures { λ r. ⌜ r ≡ stateWith f m ⌝ }
+pub(crate) fn state_again(f: Fixed, m: Moving) -> State
+    ensures { λ r. ⌜ r ≡ stateAgain f m ⌝ }
 {
     let regs = Registers {
         ireg: m.ireg,
@@ -100,7 +100,7 @@ pub(crate) fn run_again(f: Fixed, m: Moving) -> Run
     ensures { λ r. ⌜ r ≡ runAgain f m ⌝ }
 {
     Run {
-        state: state_with(f, m),
+        state: state_again(f, m),
         number: m.number,
         fuel: f.fuel,
         spent: m.spent,
@@ -180,7 +180,7 @@ pub(crate) fn refused_at(f: Fixed, m: Moving, number: u64) -> Went
     if left_of(f.fuel, spent) < 1 {
         return stopped_before(m, 1);
     }
-    went_on(m, state_with(f, m), spent + 1, number, 0)
+    went_on(m, state_again(f, m), spent + 1, number, 0)
 }
 
 // The fuel not spent.

@@ -7,7 +7,7 @@ ghost use Rattle.rules.specs.declared.Asked.the-variants.{Traced};
 ghost use Rattle.rules.specs.Rules.{effectIn};
 ghost use Rattle.request.specs.declared.Decoded.the-variants.{Asks};
 ghost use Rattle.replay.specs.Costs.{workOf};
-ghost use Rattle.replay.specs.Packing.{stateWith, runAgain, ranAgain};
+ghost use Rattle.replay.specs.Packing.{stateAgain, runAgain, ranAgain};
 ghost use Rattle.replay.specs.Running.{runningOf, shownRan, ranAt, ranOn};
 ghost use Rattle.replay.specs.ByKind.{entryFor};
 use crate::cost::cost_of;
@@ -16,7 +16,7 @@ use crate::flat::Moving;
 use crate::flat::Went;
 use crate::flat::left_of;
 use crate::flat::refused_at;
-use crate::flat::state_with;
+use crate::flat::state_again;
 use crate::flat::stopped_before;
 use crate::flat::went_on;
 use record::BAD_RECORD;
@@ -68,7 +68,7 @@ pub(crate) fn run_host(
     ensures { λ r. ⌜ shownRan (ranAgain f r) (now (words .exit)) (now (cells .exit))
         ≡ ranOn (runningOf (runAgain f m) (now (words .entry)) (now (cells .entry))) (Asks (Host q)) ⌝ }
 {
-    let s = state_with(f, m);
+    let s = state_again(f, m);
     match judge_host(s, words, cells, q) {
         Judgement::Refuse(why) => refused_at(f, m, refusal_number(why)),
         Judgement::Accept(room) => host_in_room(f, m, words, cells, q, room),
@@ -85,7 +85,7 @@ fn host_in_room(
 ) -> Went
     ensures { λ r. ⌜ shownRan (ranAgain f r) (now (words .exit)) (now (cells .exit))
         ≡ ranAt (runningOf (runAgain f m) (now (words .entry)) (now (cells .entry)))
-        (effectIn (worldOf (stateWith f m) (now (words .entry)) (now (cells .entry))) (Traced (Host q)) room) (1 + workOf (Host q)) ⌝ }
+        (effectIn (worldOf (stateAgain f m) (now (words .entry)) (now (cells .entry))) (Traced (Host q)) room) (1 + workOf (Host q)) ⌝ }
 {
     let spent = m.spent;
     let cost = cost_of(Request::Host(q));
@@ -93,7 +93,7 @@ fn host_in_room(
         return stopped_before(m, cost);
     }
     let total = spent + cost;
-    let s = state_with(f, m);
+    let s = state_again(f, m);
     let out = step_host(s, words, cells, q, room);
     let answer = out.answer;
     went_on(
@@ -134,7 +134,7 @@ pub(crate) fn run_return_host(
     ensures { λ r. ⌜ shownRan (ranAgain f r) (now (words .exit)) (now (cells .exit))
         ≡ ranOn (runningOf (runAgain f m) (now (words .entry)) (now (cells .entry))) (Asks (ReturnHost q)) ⌝ }
 {
-    let s = state_with(f, m);
+    let s = state_again(f, m);
     match judge_return_host(s, words, cells, q) {
         Judgement::Refuse(why) => refused_at(f, m, refusal_number(why)),
         Judgement::Accept(room) => return_host_in_room(f, m, words, cells, q, room),
@@ -151,7 +151,7 @@ fn return_host_in_room(
 ) -> Went
     ensures { λ r. ⌜ shownRan (ranAgain f r) (now (words .exit)) (now (cells .exit))
         ≡ ranAt (runningOf (runAgain f m) (now (words .entry)) (now (cells .entry)))
-        (effectIn (worldOf (stateWith f m) (now (words .entry)) (now (cells .entry))) (Traced (ReturnHost q)) room) (1 + workOf (ReturnHost q)) ⌝ }
+        (effectIn (worldOf (stateAgain f m) (now (words .entry)) (now (cells .entry))) (Traced (ReturnHost q)) room) (1 + workOf (ReturnHost q)) ⌝ }
 {
     let spent = m.spent;
     let cost = cost_of(Request::ReturnHost(q));
@@ -159,7 +159,7 @@ fn return_host_in_room(
         return stopped_before(m, cost);
     }
     let total = spent + cost;
-    let s = state_with(f, m);
+    let s = state_again(f, m);
     let out = step_return_host(s, words, cells, q, room);
     let answer = out.answer;
     went_on(

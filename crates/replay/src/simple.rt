@@ -7,7 +7,7 @@ ghost use Rattle.rules.specs.declared.Asked.the-variants.{Traced};
 ghost use Rattle.rules.specs.Rules.{effectIn};
 ghost use Rattle.request.specs.declared.Decoded.the-variants.{Asks};
 ghost use Rattle.replay.specs.Costs.{workOf};
-ghost use Rattle.replay.specs.Packing.{stateWith, runAgain, ranAgain};
+ghost use Rattle.replay.specs.Packing.{stateAgain, runAgain, ranAgain};
 ghost use Rattle.replay.specs.Running.{runningOf, shownRan, ranAt, ranOn};
 ghost use Rattle.replay.specs.ByKind.{entryFor};
 use crate::cost::cost_of;
@@ -16,7 +16,7 @@ use crate::flat::Moving;
 use crate::flat::Went;
 use crate::flat::left_of;
 use crate::flat::refused_at;
-use crate::flat::state_with;
+use crate::flat::state_again;
 use crate::flat::stopped_before;
 use crate::flat::went_on;
 use record::BAD_RECORD;
@@ -64,7 +64,7 @@ pub(crate) fn run_sync(f: Fixed, m: Moving, words: &mut [u64], cells: &mut [u64]
     ensures { λ r. ⌜ shownRan (ranAgain f r) (now (words .exit)) (now (cells .exit))
         ≡ ranOn (runningOf (runAgain f m) (now (words .entry)) (now (cells .entry))) (Asks (Sync ip)) ⌝ }
 {
-    let s = state_with(f, m);
+    let s = state_again(f, m);
     match judge_sync(s, words, cells) {
         Judgement::Refuse(why) => refused_at(f, m, refusal_number(why)),
         Judgement::Accept(room) => sync_in_room(f, m, words, cells, ip, room),
@@ -81,7 +81,7 @@ fn sync_in_room(
 ) -> Went
     ensures { λ r. ⌜ shownRan (ranAgain f r) (now (words .exit)) (now (cells .exit))
         ≡ ranAt (runningOf (runAgain f m) (now (words .entry)) (now (cells .entry)))
-        (effectIn (worldOf (stateWith f m) (now (words .entry)) (now (cells .entry))) (Traced (Sync ip)) room) (1 + workOf (Sync ip)) ⌝ }
+        (effectIn (worldOf (stateAgain f m) (now (words .entry)) (now (cells .entry))) (Traced (Sync ip)) room) (1 + workOf (Sync ip)) ⌝ }
 {
     let spent = m.spent;
     let cost = cost_of(Request::Sync(ip));
@@ -89,7 +89,7 @@ fn sync_in_room(
         return stopped_before(m, cost);
     }
     let total = spent + cost;
-    let s = state_with(f, m);
+    let s = state_again(f, m);
     let out = step_sync(s, words, cells, ip, room);
     let answer = out.answer;
     went_on(
@@ -124,7 +124,7 @@ pub(crate) fn run_restore(f: Fixed, m: Moving, words: &mut [u64], cells: &mut [u
     ensures { λ r. ⌜ shownRan (ranAgain f r) (now (words .exit)) (now (cells .exit))
         ≡ ranOn (runningOf (runAgain f m) (now (words .entry)) (now (cells .entry))) (Asks Restore) ⌝ }
 {
-    let s = state_with(f, m);
+    let s = state_again(f, m);
     match judge_restore(s, words, cells) {
         Judgement::Refuse(why) => refused_at(f, m, refusal_number(why)),
         Judgement::Accept(room) => restore_in_room(f, m, words, cells, room),
@@ -134,7 +134,7 @@ pub(crate) fn run_restore(f: Fixed, m: Moving, words: &mut [u64], cells: &mut [u
 fn restore_in_room(f: Fixed, m: Moving, words: &mut [u64], cells: &mut [u64], room: Room) -> Went
     ensures { λ r. ⌜ shownRan (ranAgain f r) (now (words .exit)) (now (cells .exit))
         ≡ ranAt (runningOf (runAgain f m) (now (words .entry)) (now (cells .entry)))
-        (effectIn (worldOf (stateWith f m) (now (words .entry)) (now (cells .entry))) (Traced Restore) room) (1 + workOf Restore) ⌝ }
+        (effectIn (worldOf (stateAgain f m) (now (words .entry)) (now (cells .entry))) (Traced Restore) room) (1 + workOf Restore) ⌝ }
 {
     let spent = m.spent;
     let cost = cost_of(Request::Restore);
@@ -142,7 +142,7 @@ fn restore_in_room(f: Fixed, m: Moving, words: &mut [u64], cells: &mut [u64], ro
         return stopped_before(m, cost);
     }
     let total = spent + cost;
-    let s = state_with(f, m);
+    let s = state_again(f, m);
     let out = step_restore(s, words, cells, room);
     let answer = out.answer;
     went_on(
@@ -177,7 +177,7 @@ pub(crate) fn run_reset(f: Fixed, m: Moving, words: &mut [u64], cells: &mut [u64
     ensures { λ r. ⌜ shownRan (ranAgain f r) (now (words .exit)) (now (cells .exit))
         ≡ ranOn (runningOf (runAgain f m) (now (words .entry)) (now (cells .entry))) (Asks Reset) ⌝ }
 {
-    let s = state_with(f, m);
+    let s = state_again(f, m);
     match judge_reset(s, words, cells) {
         Judgement::Refuse(why) => refused_at(f, m, refusal_number(why)),
         Judgement::Accept(room) => reset_in_room(f, m, words, cells, room),
@@ -187,7 +187,7 @@ pub(crate) fn run_reset(f: Fixed, m: Moving, words: &mut [u64], cells: &mut [u64
 fn reset_in_room(f: Fixed, m: Moving, words: &mut [u64], cells: &mut [u64], room: Room) -> Went
     ensures { λ r. ⌜ shownRan (ranAgain f r) (now (words .exit)) (now (cells .exit))
         ≡ ranAt (runningOf (runAgain f m) (now (words .entry)) (now (cells .entry)))
-        (effectIn (worldOf (stateWith f m) (now (words .entry)) (now (cells .entry))) (Traced Reset) room) (1 + workOf Reset) ⌝ }
+        (effectIn (worldOf (stateAgain f m) (now (words .entry)) (now (cells .entry))) (Traced Reset) room) (1 + workOf Reset) ⌝ }
 {
     let spent = m.spent;
     let cost = cost_of(Request::Reset);
@@ -195,7 +195,7 @@ fn reset_in_room(f: Fixed, m: Moving, words: &mut [u64], cells: &mut [u64], room
         return stopped_before(m, cost);
     }
     let total = spent + cost;
-    let s = state_with(f, m);
+    let s = state_again(f, m);
     let out = step_reset(s, words, cells);
     let answer = out.answer;
     went_on(
@@ -231,7 +231,7 @@ pub(crate) fn run_set(
     ensures { λ r. ⌜ shownRan (ranAgain f r) (now (words .exit)) (now (cells .exit))
         ≡ ranOn (runningOf (runAgain f m) (now (words .entry)) (now (cells .entry))) (Asks (Set head cell)) ⌝ }
 {
-    let s = state_with(f, m);
+    let s = state_again(f, m);
     match judge_set(s, words, cells, head) {
         Judgement::Refuse(why) => refused_at(f, m, refusal_number(why)),
         Judgement::Accept(room) => set_in_room(f, m, words, cells, head, cell, room),
@@ -249,7 +249,7 @@ fn set_in_room(
 ) -> Went
     ensures { λ r. ⌜ shownRan (ranAgain f r) (now (words .exit)) (now (cells .exit))
         ≡ ranAt (runningOf (runAgain f m) (now (words .entry)) (now (cells .entry)))
-        (effectIn (worldOf (stateWith f m) (now (words .entry)) (now (cells .entry))) (Traced (Set head cell)) room) (1 + workOf (Set head cell)) ⌝ }
+        (effectIn (worldOf (stateAgain f m) (now (words .entry)) (now (cells .entry))) (Traced (Set head cell)) room) (1 + workOf (Set head cell)) ⌝ }
 {
     let spent = m.spent;
     let cost = cost_of(Request::Set(head, cell));
@@ -257,7 +257,7 @@ fn set_in_room(
         return stopped_before(m, cost);
     }
     let total = spent + cost;
-    let s = state_with(f, m);
+    let s = state_again(f, m);
     let out = step_set(s, words, cells, cell, room);
     let answer = out.answer;
     went_on(

@@ -9,14 +9,14 @@ use Rattle.replay.proofs.calls.run_replace.Tie as tie
 returns : tie.Need-returns
 returns c =
     let a = c .before .before .before .before .before .before .before .before .before .before .before .args in
-    arm-refused (a .f) (a .m) _ _ (Replace (a .q)) _ (c .before .before .before .before .before .before .before .before .state-with .ensures) _ (c .before .before .before .before .before .judge-replace .ensures) _ _ (c .before .before .before .why .given .1)
+    arm-refused (a .f) (a .m) _ _ (Replace (a .q)) _ (c .before .before .before .before .before .before .before .before .state-again .ensures) _ (c .before .before .before .before .before .judge-replace .ensures) _ _ (c .before .before .before .why .given .1)
     (c .before .refusal-number .ensures) _ (c .refused-at .ensures)
 
 returns-2 : tie.Need-returns-2
 returns-2 c =
     let a = c .before .before .before .before .before .before .before .before .before .before .before .before .before .before .before .before .args in
     c .before .before .before .before .replace-in-room .ensures
-    ∙ arm-accepted (a .f) (a .m) _ _ (Replace (a .q)) _ (c .before .before .before .before .before .before .before .before .before .before .before .before .before .state-with .ensures) _ (c .before .before .before .before .before .before .before .before .before .before .judge-replace .ensures) _ (c .before .before .before .before .before .before .before .before .room .given .1)
+    ∙ arm-accepted (a .f) (a .m) _ _ (Replace (a .q)) _ (c .before .before .before .before .before .before .before .before .before .before .before .before .before .state-again .ensures) _ (c .before .before .before .before .before .before .before .before .before .before .judge-replace .ensures) _ (c .before .before .before .before .before .before .before .before .room .given .1)
 
 pub run-replace-spec : {M : Type 1} → statement M
 run-replace-spec =

@@ -24,7 +24,7 @@ returns-2 c =
     let left = c .before .before .before .left-of .ensures in
     let enough = c .before .before .if1 .left in
     chosen-second _ _ _ _ _ (le-ltb (a .f .fuel - a .m .spent) 1 (omega (arith, left, enough)))
-    (c .went-on .ensures ∙ ap (λ s. wentOnWith (a .m) s (a .m .spent + 1) (a .number) 0) (c .before .state-with .ensures))
+    (c .went-on .ensures ∙ ap (λ s. wentOnWith (a .m) s (a .m .spent + 1) (a .number) 0) (c .before .state-again .ensures))
 
 pub refused-at-spec : {M : Type 1} → statement M
 refused-at-spec =

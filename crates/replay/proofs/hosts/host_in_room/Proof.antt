@@ -17,10 +17,10 @@ returns-2 c =
     let a = c .before .before .before .before .before .before .before .before .before .before .before .before .before .before .before .before .args in
     let cost = c .before .before .before .before .before .before .before .before .before .before .before .before .before .cost-of in
     let step = c .before .before .before .before .before .before .before .step-host in
-    let with-state = c .before .before .before .before .before .before .before .before .before .before .state-with in
+    let again = c .before .before .before .before .before .before .before .before .before .before .state-again in
     let left = c .before .before .before .before .before .before .before .before .before .before .before .before .left-of .ensures in
     let enough = c .before .before .before .before .before .before .before .before .before .before .before .if1 .left in
-    arm-goes (a .f) (a .m) _ _ (Host (a .q)) (a .room) _ (cost .ensures) _ (with-state .ensures) (step .result) _ _ (step .ensures)
+    arm-goes (a .f) (a .m) _ _ (Host (a .q)) (a .room) _ (cost .ensures) _ (again .ensures) (step .result) _ _ (step .ensures)
     _ _ (c .before .before .answer-number .ensures) (c .before .answer-offset .ensures) _ (c .went-on .ensures) (omega (arith, left, enough))
 
 pub host-in-room-spec : {M : Type 1} → statement M

@@ -72,10 +72,10 @@ module _ (f : Fixed) (m : Moving) (words cells : List ℕ) where
       judged-so : shownJudgement j ≡ judged (testsOf at-first (Traced q)) (roomFor at-first (Traced q))
       judged-so = e ∙ ap (λ (s : State). judged (testsOf (worldOf s words cells) (Traced q)) (roomFor (worldOf s words cells) (Traced q))) same
 
-      pub arm-refused : (why : Refusal) (number : ℕ) → j ≡ Refuse why → number ≡ refusalNumber why → (x : Went) → x ≡ wentRefused f m number
+      pub arm-refused : (why : Refusal) → j ≡ Refuse why → (x : Went) → x ≡ wentRefused f m (refusalNumber why)
           → shownRan (ranAgain f x) words cells ≡ ranOn (runningOf (runAgain f m) words cells) (Asks q)
-      arm-refused why number p n x r =
-          ap (λ x. shownRan (ranAgain f x) words cells) r ∙ refused-says number ∙ ran-refused (runAgain f m) words cells q j judged-so why number p n
+      arm-refused why p x r =
+          ap (λ x. shownRan (ranAgain f x) words cells) r ∙ refused-says (refusalNumber why) ∙ ran-refused (runAgain f m) words cells q j judged-so why _ p refl
 
       pub arm-accepted : (room : Room) → j ≡ Accept room
           → ranAt (runningOf (runAgain f m) words cells) (effectIn at-first (Traced q) room) (1 + workOf q) ≡ ranOn (runningOf (runAgain f m) words cells) (Asks q)
@@ -92,10 +92,12 @@ module _ (f : Fixed) (m : Moving) (words cells : List ℕ) where
 
     -- out is what the step of state s gave
     pub arm-goes : (s : State) → s ≡ stateAgain f m → (out : Outcome) (ws cs : List ℕ) → shownOutcome out ws cs ≡ effectIn (worldOf s words cells) (Traced q) room
-        → (number offset : ℕ) → number ≡ shownAnswer (out .answer) .number → offset ≡ shownAnswer (out .answer) .values .offset
-        → (x : Went) → x ≡ wentOnWith m (out .state) (m .spent + cost) number offset → cost ≤ f .fuel - m .spent
+        → (x : Went) → x ≡ wentOnWith m (out .state) (m .spent + cost) (shownAnswer (out .answer) .number) (shownAnswer (out .answer) .values .offset)
+        → cost ≤ f .fuel - m .spent
         → shownRan (ranAgain f x) ws cs ≡ ranAt (runningOf (runAgain f m) words cells) effect (1 + workOf q)
-    arm-goes s same out ws cs e number offset n o x p h =
+    arm-goes s same out ws cs e x p h =
+        let number = shownAnswer (out .answer) .number in
+        let offset = shownAnswer (out .answer) .values .offset in
         let stepped : shownOutcome out ws cs ≡ effect = e ∙ ap (λ (s : State). effectIn (worldOf s words cells) (Traced q) room) same in
         let kept = limits-kept at-first q room in
         let limits : SameLimits (out .state) (stateAgain f m) = (
@@ -106,5 +108,5 @@ module _ (f : Fixed) (m : Moving) (words cells : List ℕ) where
         ) in
         ran-goes (runAgain f m) words cells effect cost (ranAgain f x) (out .state) ws cs (m .spent + cost) number offset
         (ap (ranAgain f) p ∙ went-says f m (out .state) limits (m .spent + cost) number offset)
-        (ap (λ (t : After). t .world) stepped) (n ∙ ap (λ (t : After). t .shown .number) stepped) (o ∙ ap (λ (t : After). t .shown .values .offset) stepped) refl h
+        (ap (λ (t : After). t .world) stepped) (ap (λ (t : After). t .shown .number) stepped) (ap (λ (t : After). t .shown .values .offset) stepped) refl h
         ∙ ap (ranAt (runningOf (runAgain f m) words cells) effect) costs

@@ -16,9 +16,10 @@ use crate::flat::Moving;
 use crate::flat::Went;
 use crate::flat::left_of;
 use crate::flat::refused_at;
+use crate::flat::refused_for;
 use crate::flat::state_again;
 use crate::flat::stopped_before;
-use crate::flat::went_on;
+use crate::flat::went_by;
 use record::BAD_RECORD;
 use record::POP_ROW;
 use record::PUSH_ROW;
@@ -32,9 +33,6 @@ use rules::PushArgs;
 use rules::ReplaceArgs;
 use rules::Request;
 use rules::Room;
-use stack::answer_number;
-use stack::answer_offset;
-use stack::refusal_number;
 use stack_calls::judge_pop;
 use stack_calls::judge_push;
 use stack_calls::judge_replace;
@@ -73,7 +71,7 @@ pub(crate) fn run_push(
 {
     let s = state_again(f, m);
     match judge_push(s, words, cells, q) {
-        Judgement::Refuse(why) => refused_at(f, m, refusal_number(why)),
+        Judgement::Refuse(why) => refused_for(f, m, why),
         Judgement::Accept(room) => push_in_room(f, m, words, cells, q, room),
     }
 }
@@ -97,15 +95,7 @@ fn push_in_room(
     }
     let total = spent + cost;
     let s = state_again(f, m);
-    let out = step_push(s, words, cells, q, room);
-    let answer = out.answer;
-    went_on(
-        m,
-        out.state,
-        total,
-        answer_number(answer),
-        answer_offset(answer),
-    )
+    went_by(m, step_push(s, words, cells, q, room), total)
 }
 
 // ---- pop
@@ -133,7 +123,7 @@ pub(crate) fn run_pop(
 {
     let s = state_again(f, m);
     match judge_pop(s, words, cells) {
-        Judgement::Refuse(why) => refused_at(f, m, refusal_number(why)),
+        Judgement::Refuse(why) => refused_for(f, m, why),
         Judgement::Accept(room) => pop_in_room(f, m, words, cells, instance, room),
     }
 }
@@ -157,15 +147,7 @@ fn pop_in_room(
     }
     let total = spent + cost;
     let s = state_again(f, m);
-    let out = step_pop(s, words, cells, instance, room);
-    let answer = out.answer;
-    went_on(
-        m,
-        out.state,
-        total,
-        answer_number(answer),
-        answer_offset(answer),
-    )
+    went_by(m, step_pop(s, words, cells, instance, room), total)
 }
 
 // ---- replace
@@ -199,7 +181,7 @@ pub(crate) fn run_replace(
 {
     let s = state_again(f, m);
     match judge_replace(s, words, cells, q) {
-        Judgement::Refuse(why) => refused_at(f, m, refusal_number(why)),
+        Judgement::Refuse(why) => refused_for(f, m, why),
         Judgement::Accept(room) => replace_in_room(f, m, words, cells, q, room),
     }
 }
@@ -223,13 +205,5 @@ fn replace_in_room(
     }
     let total = spent + cost;
     let s = state_again(f, m);
-    let out = step_replace(s, words, cells, q, room);
-    let answer = out.answer;
-    went_on(
-        m,
-        out.state,
-        total,
-        answer_number(answer),
-        answer_offset(answer),
-    )
+    went_by(m, step_replace(s, words, cells, q, room), total)
 }

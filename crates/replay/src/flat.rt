@@ -2,7 +2,7 @@
 // next costs as much as the record itself.
 ghost use mathlib.Core.Path.{_≡_};
 ghost use Prim.Native.Nat.{_-_};
-ghost use Rattle.rules.specs.World.{worldOf};
+ghost use Rattle.rules.specs.Answers.{refusalNumber, shownAnswer};
 ghost use Rattle.replay.specs.Packing.{fixedIn, movingIn, stateAgain, runAgain, ranAgain, numberOr, wentOnWith, wentStopped, wentRefused};
 use crate::run::Ran;
 use crate::run::Run;
@@ -11,7 +11,12 @@ use given::given_if;
 use given::given_number;
 use given::is_given;
 use regs::Registers;
+use rules::Outcome;
+use rules::Refusal;
 use rules::State;
+use stack::answer_number;
+use stack::answer_offset;
+use stack::refusal_number;
 
 pub struct Fixed {
     pub depth: usize,
@@ -124,8 +129,17 @@ pub(crate) fn ran_again(f: Fixed, w: Went) -> Ran
     }
 }
 
+// A request was done, with so much spent in all.
+pub(crate) fn went_by(m: Moving, out: Outcome, spent: u64) -> Went
+    ensures { λ r. ⌜ r ≡ wentOnWith m (out .state) spent (shownAnswer (out .answer) .number) (shownAnswer (out .answer) .values .offset) ⌝ }
+{
+    let s = out.state;
+    let answer = out.answer;
+    went_on(m, s, spent, answer_number(answer), answer_offset(answer))
+}
+
 // A record was run, with so much spent in all. Records are numbered in a u64, which wraps.
-pub(crate) fn went_on(m: Moving, s: State, spent: u64, answer: u64, offset: usize) -> Went
+fn went_on(m: Moving, s: State, spent: u64, answer: u64, offset: usize) -> Went
     ensures { λ r. ⌜ r ≡ wentOnWith m s spent answer offset ⌝ }
 {
     let current = s.current;
@@ -181,6 +195,12 @@ pub(crate) fn refused_at(f: Fixed, m: Moving, number: u64) -> Went
         return stopped_before(m, 1);
     }
     went_on(m, state_again(f, m), spent + 1, number, 0)
+}
+
+pub(crate) fn refused_for(f: Fixed, m: Moving, why: Refusal) -> Went
+    ensures { λ r. ⌜ r ≡ wentRefused f m (refusalNumber why) ⌝ }
+{
+    refused_at(f, m, refusal_number(why))
 }
 
 // The fuel not spent.

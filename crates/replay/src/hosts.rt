@@ -16,9 +16,10 @@ use crate::flat::Moving;
 use crate::flat::Went;
 use crate::flat::left_of;
 use crate::flat::refused_at;
+use crate::flat::refused_for;
 use crate::flat::state_again;
 use crate::flat::stopped_before;
-use crate::flat::went_on;
+use crate::flat::went_by;
 use record::BAD_RECORD;
 use record::HOST_ROW;
 use record::RETURN_HOST_ROW;
@@ -31,9 +32,6 @@ use rules::Judgement;
 use rules::Request;
 use rules::ReturnHostArgs;
 use rules::Room;
-use stack::answer_number;
-use stack::answer_offset;
-use stack::refusal_number;
 use stack_hosts::judge_host;
 use stack_hosts::judge_return_host;
 use stack_hosts::step_host;
@@ -70,7 +68,7 @@ pub(crate) fn run_host(
 {
     let s = state_again(f, m);
     match judge_host(s, words, cells, q) {
-        Judgement::Refuse(why) => refused_at(f, m, refusal_number(why)),
+        Judgement::Refuse(why) => refused_for(f, m, why),
         Judgement::Accept(room) => host_in_room(f, m, words, cells, q, room),
     }
 }
@@ -94,15 +92,7 @@ fn host_in_room(
     }
     let total = spent + cost;
     let s = state_again(f, m);
-    let out = step_host(s, words, cells, q, room);
-    let answer = out.answer;
-    went_on(
-        m,
-        out.state,
-        total,
-        answer_number(answer),
-        answer_offset(answer),
-    )
+    went_by(m, step_host(s, words, cells, q, room), total)
 }
 
 // ---- return-host
@@ -136,7 +126,7 @@ pub(crate) fn run_return_host(
 {
     let s = state_again(f, m);
     match judge_return_host(s, words, cells, q) {
-        Judgement::Refuse(why) => refused_at(f, m, refusal_number(why)),
+        Judgement::Refuse(why) => refused_for(f, m, why),
         Judgement::Accept(room) => return_host_in_room(f, m, words, cells, q, room),
     }
 }
@@ -160,13 +150,5 @@ fn return_host_in_room(
     }
     let total = spent + cost;
     let s = state_again(f, m);
-    let out = step_return_host(s, words, cells, q, room);
-    let answer = out.answer;
-    went_on(
-        m,
-        out.state,
-        total,
-        answer_number(answer),
-        answer_offset(answer),
-    )
+    went_by(m, step_return_host(s, words, cells, q, room), total)
 }

@@ -16,9 +16,10 @@ use crate::flat::Moving;
 use crate::flat::Went;
 use crate::flat::left_of;
 use crate::flat::refused_at;
+use crate::flat::refused_for;
 use crate::flat::state_again;
 use crate::flat::stopped_before;
-use crate::flat::went_on;
+use crate::flat::went_by;
 use record::BAD_RECORD;
 use record::RESET_ROW;
 use record::RESTORE_ROW;
@@ -29,13 +30,10 @@ use record::keeps_row;
 use rules::Judgement;
 use rules::Request;
 use rules::Room;
-use stack::answer_number;
-use stack::answer_offset;
 use stack::judge_reset;
 use stack::judge_restore;
 use stack::judge_set;
 use stack::judge_sync;
-use stack::refusal_number;
 use stack::step_reset;
 use stack::step_restore;
 use stack::step_set;
@@ -66,7 +64,7 @@ pub(crate) fn run_sync(f: Fixed, m: Moving, words: &mut [u64], cells: &mut [u64]
 {
     let s = state_again(f, m);
     match judge_sync(s, words, cells) {
-        Judgement::Refuse(why) => refused_at(f, m, refusal_number(why)),
+        Judgement::Refuse(why) => refused_for(f, m, why),
         Judgement::Accept(room) => sync_in_room(f, m, words, cells, ip, room),
     }
 }
@@ -90,15 +88,7 @@ fn sync_in_room(
     }
     let total = spent + cost;
     let s = state_again(f, m);
-    let out = step_sync(s, words, cells, ip, room);
-    let answer = out.answer;
-    went_on(
-        m,
-        out.state,
-        total,
-        answer_number(answer),
-        answer_offset(answer),
-    )
+    went_by(m, step_sync(s, words, cells, ip, room), total)
 }
 
 // ---- restore
@@ -126,7 +116,7 @@ pub(crate) fn run_restore(f: Fixed, m: Moving, words: &mut [u64], cells: &mut [u
 {
     let s = state_again(f, m);
     match judge_restore(s, words, cells) {
-        Judgement::Refuse(why) => refused_at(f, m, refusal_number(why)),
+        Judgement::Refuse(why) => refused_for(f, m, why),
         Judgement::Accept(room) => restore_in_room(f, m, words, cells, room),
     }
 }
@@ -143,15 +133,7 @@ fn restore_in_room(f: Fixed, m: Moving, words: &mut [u64], cells: &mut [u64], ro
     }
     let total = spent + cost;
     let s = state_again(f, m);
-    let out = step_restore(s, words, cells, room);
-    let answer = out.answer;
-    went_on(
-        m,
-        out.state,
-        total,
-        answer_number(answer),
-        answer_offset(answer),
-    )
+    went_by(m, step_restore(s, words, cells, room), total)
 }
 
 // ---- reset
@@ -179,7 +161,7 @@ pub(crate) fn run_reset(f: Fixed, m: Moving, words: &mut [u64], cells: &mut [u64
 {
     let s = state_again(f, m);
     match judge_reset(s, words, cells) {
-        Judgement::Refuse(why) => refused_at(f, m, refusal_number(why)),
+        Judgement::Refuse(why) => refused_for(f, m, why),
         Judgement::Accept(room) => reset_in_room(f, m, words, cells, room),
     }
 }
@@ -196,15 +178,7 @@ fn reset_in_room(f: Fixed, m: Moving, words: &mut [u64], cells: &mut [u64], room
     }
     let total = spent + cost;
     let s = state_again(f, m);
-    let out = step_reset(s, words, cells);
-    let answer = out.answer;
-    went_on(
-        m,
-        out.state,
-        total,
-        answer_number(answer),
-        answer_offset(answer),
-    )
+    went_by(m, step_reset(s, words, cells), total)
 }
 
 // ---- set
@@ -233,7 +207,7 @@ pub(crate) fn run_set(
 {
     let s = state_again(f, m);
     match judge_set(s, words, cells, head) {
-        Judgement::Refuse(why) => refused_at(f, m, refusal_number(why)),
+        Judgement::Refuse(why) => refused_for(f, m, why),
         Judgement::Accept(room) => set_in_room(f, m, words, cells, head, cell, room),
     }
 }
@@ -258,13 +232,5 @@ fn set_in_room(
     }
     let total = spent + cost;
     let s = state_again(f, m);
-    let out = step_set(s, words, cells, cell, room);
-    let answer = out.answer;
-    went_on(
-        m,
-        out.state,
-        total,
-        answer_number(answer),
-        answer_offset(answer),
-    )
+    went_by(m, step_set(s, words, cells, cell, room), total)
 }

@@ -14,14 +14,14 @@ returns c =
 
 returns-2 : tie.Need-returns-2
 returns-2 c =
-    let a = c .before .before .before .before .before .before .before .before .before .before .before .before .before .before .before .before .args in
-    let cost = c .before .before .before .before .before .before .before .before .before .before .before .before .before .cost-of in
-    let step = c .before .before .before .before .before .before .before .step-push in
-    let again = c .before .before .before .before .before .before .before .before .before .before .state-again in
-    let left = c .before .before .before .before .before .before .before .before .before .before .before .before .left-of .ensures in
-    let enough = c .before .before .before .before .before .before .before .before .before .before .before .if1 .left in
+    let a = c .before .before .before .before .before .before .before .before .before .before .before .before .before .before .args in
+    let cost = c .before .before .before .before .before .before .before .before .before .before .before .cost-of in
+    let step = c .before .before .before .before .before .step-push in
+    let again = c .before .before .before .before .before .before .before .before .state-again in
+    let left = c .before .before .before .before .before .before .before .before .before .before .left-of .ensures in
+    let enough = c .before .before .before .before .before .before .before .before .before .if1 .left in
     arm-goes (a .f) (a .m) _ _ (Push (a .q)) (a .room) _ (cost .ensures) _ (again .ensures) (step .result) _ _ (step .ensures)
-    _ _ (c .before .before .answer-number .ensures) (c .before .answer-offset .ensures) _ (c .went-on .ensures) (omega (arith, left, enough))
+    _ (c .went-by .ensures) (omega (arith, left, enough))
 
 pub push-in-room-spec : {M : Type 1} → statement M
 push-in-room-spec =
@@ -32,8 +32,6 @@ push-in-room-spec =
     (λ c κs. search needs)
     returns
     (λ c. search needs)
-    (λ c κs. search needs)
-    (λ c κs. search needs)
     (λ c κs. search needs)
     (λ c κs. search needs)
     (λ c κs. search needs)

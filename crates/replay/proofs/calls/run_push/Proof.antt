@@ -8,9 +8,8 @@ use Rattle.replay.proofs.calls.run_push.Tie as tie
 
 returns : tie.Need-returns
 returns c =
-    let a = c .before .before .before .before .before .before .before .before .before .before .before .args in
-    arm-refused (a .f) (a .m) _ _ (Push (a .q)) _ (c .before .before .before .before .before .before .before .before .state-again .ensures) _ (c .before .before .before .before .before .judge-push .ensures) _ _ (c .before .before .before .why .given .1)
-    (c .before .refusal-number .ensures) _ (c .refused-at .ensures)
+    let a = c .before .before .before .before .before .before .before .before .before .before .args in
+    arm-refused (a .f) (a .m) _ _ (Push (a .q)) _ (c .before .before .before .before .before .before .before .state-again .ensures) _ (c .before .before .before .before .judge-push .ensures) _ (c .before .before .why .given .1) _ (c .refused-for .ensures)
 
 returns-2 : tie.Need-returns-2
 returns-2 c =
@@ -25,7 +24,6 @@ run-push-spec =
     (λ c κs. search needs)
     (λ c κs. search needs)
     (λ c. search needs)
-    (λ c κs. search needs)
     (λ c κs. search needs)
     (λ c. search needs)
     (λ c κs. search needs)

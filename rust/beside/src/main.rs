@@ -12,6 +12,8 @@ mod leaves;
 #[cfg(target_arch = "x86_64")]
 mod mission;
 mod party;
+#[cfg(target_arch = "x86_64")]
+mod peak;
 mod plain;
 #[cfg(test)]
 mod programs;

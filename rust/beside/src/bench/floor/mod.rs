@@ -1,0 +1,43 @@
+//! C by hand (c/): as fast as a C programmer makes it who leaves out no check.
+
+#[cfg(test)]
+mod tests;
+
+use super::in_place::{Face, Five, Four, Function, Host, Push, Replace, ReturnHost, Two};
+use cattlecleat::raw::{Run, State};
+
+#[rustfmt::skip]
+unsafe extern "C" {
+    fn floor_push_frame(s: *mut State, words: *mut u64, words_len: usize, cells: *mut u64, cells_len: usize, q: *const Push) -> Two;
+    fn floor_pop_frame(s: *mut State, words: *mut u64, words_len: usize, cells: *mut u64, cells_len: usize, instance: u64) -> Four;
+    fn floor_replace_frame(s: *mut State, words: *mut u64, words_len: usize, cells: *mut u64, cells_len: usize, q: *const Replace) -> Two;
+    fn floor_prepare_host_frame(s: *mut State, words: *mut u64, words_len: usize, cells: *mut u64, cells_len: usize, q: *const Host) -> Five;
+    fn floor_return_prepare_host_frame(s: *mut State, words: *mut u64, words_len: usize, cells: *mut u64, cells_len: usize, q: *const ReturnHost) -> Five;
+    fn floor_replay(run: Run, words: *mut u64, words_len: usize, cells: *mut u64, cells_len: usize, trace: *const u8, trace_len: usize) -> Run;
+}
+
+pub struct Floor;
+
+impl Face for Floor {
+    const PUSH: Function<*const Push, Two> = floor_push_frame;
+    const POP: Function<u64, Four> = floor_pop_frame;
+    const REPLACE: Function<*const Replace, Two> = floor_replace_frame;
+    const HOST: Function<*const Host, Five> = floor_prepare_host_frame;
+    const RETURN_HOST: Function<*const ReturnHost, Five> = floor_return_prepare_host_frame;
+}
+
+pub fn replay(run: Run, words: &mut [u64], cells: &mut [u64], trace: &[u8]) -> Run {
+    let (words_len, cells_len) = (words.len(), cells.len());
+    // SAFETY: slices are true and aligned pointers with their lengths, and `&mut` ones overlap nothing.
+    unsafe {
+        floor_replay(
+            run,
+            words.as_mut_ptr(),
+            words_len,
+            cells.as_mut_ptr(),
+            cells_len,
+            trace.as_ptr(),
+            trace.len(),
+        )
+    }
+}

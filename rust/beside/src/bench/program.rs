@@ -1,0 +1,95 @@
+//! The program: it replays a long trace and prints its listing, beside `cat` of the same file.
+
+use super::clock::{self, median};
+use super::scratch::Scratch;
+use super::trace::{LISTED, Trace};
+use crate::peak;
+use std::fs::{self, File};
+use std::io::Write;
+use std::path::Path;
+use std::process::{Command, Stdio};
+use std::time::Duration;
+
+/// From the repository's folder, where `./cattlecleat bench` runs.
+const PROGRAM: &str = "target/bin/cattlecleat";
+const WORD: &str = "replay";
+
+/// As many as its fuel covers at a cost of 1 each.
+const RECORDS: usize = 1_000_000;
+const RUNS: usize = 7;
+
+/// Megabytes a second of processor time, user and system, of both; and the program's peak of memory.
+pub fn line() -> Result<String, String> {
+    if !Path::new(PROGRAM).is_file() {
+        return Ok(format!("the program: no {PROGRAM} here"));
+    }
+    let trace = LISTED.trace(RECORDS);
+    let file = Scratch::new("trace")?;
+    fs::write(file.path(), &trace.bytes).map_err(told)?;
+    whole_listing(&trace, file.path())?;
+    let kib = peak_of_memory(&trace)?;
+    let [program, cat] = medians(file.path())?;
+    let megabytes = trace.bytes.len() as f64 / 1e6;
+    let rate = |time: Duration| megabytes / time.as_secs_f64();
+    Ok(format!(
+        "the program: {RECORDS} records, {megabytes:.0} MB, with its listing to /dev/null: {:.0} MB/s, {:.1} ns a record, {kib} KiB of memory; cat {:.0} MB/s",
+        rate(program),
+        program.as_nanos() as f64 / RECORDS as f64,
+        rate(cat)
+    ))
+}
+
+/// Every record is accepted and printed: a line for each, and all of the cost spent.
+fn whole_listing(trace: &Trace, file: &Path) -> Result<(), String> {
+    let input = File::open(file).map_err(told)?;
+    let output = Command::new(PROGRAM).arg(WORD).stdin(input).output().map_err(told)?;
+    let lines = output.stdout.iter().filter(|byte| **byte == b'\n').count();
+    let spent = format!("\nspent {}\n", trace.cost);
+    match lines == RECORDS + 1 && output.stdout.ends_with(spent.as_bytes()) {
+        true => Ok(()),
+        false => Err(format!(
+            "the program prints {lines} lines for {RECORDS} records, and not the cost {}",
+            trace.cost
+        )),
+    }
+}
+
+/// In KiB, read when it has been given all but the end: so it is still there.
+fn peak_of_memory(trace: &Trace) -> Result<u64, String> {
+    let mut child = Command::new(PROGRAM)
+        .arg(WORD)
+        .stdin(Stdio::piped())
+        .stdout(Stdio::null())
+        .spawn()
+        .map_err(told)?;
+    let mut input = child.stdin.take().ok_or("the program has no input")?;
+    let written = input.write_all(&trace.bytes).map_err(told);
+    let peak = peak::kib(&child.id().to_string());
+    drop(input);
+    child.wait().map_err(told)?;
+    written.and(peak)
+}
+
+/// The median times of the program and of cat, in turns.
+fn medians(file: &Path) -> Result<[Duration; 2], String> {
+    let mut times = [Vec::new(), Vec::new()];
+    for _ in 0..RUNS {
+        times[0].push(timed(Command::new(PROGRAM).arg(WORD), file)?);
+        times[1].push(timed(&mut Command::new("cat"), file)?);
+    }
+    Ok(times.map(median))
+}
+
+fn timed(command: &mut Command, file: &Path) -> Result<Duration, String> {
+    let input = File::open(file).map_err(told)?;
+    let begin = clock::of_children();
+    let status = command.stdin(input).stdout(Stdio::null()).status().map_err(told)?;
+    match status.success() {
+        true => Ok(clock::of_children() - begin),
+        false => Err(format!("{command:?}: {status}")),
+    }
+}
+
+fn told(error: std::io::Error) -> String {
+    format!("the program: {error}")
+}

@@ -1,0 +1,55 @@
+//! Rounds: in each every party has its turn, from a reset, and all have to end alike.
+
+use super::clock::{self, median};
+use super::side::End;
+use super::trace::Trace;
+use super::ways::Party;
+use std::time::Duration;
+
+/// The median time of each party. A first round is not timed, and every other one goes backwards.
+pub fn medians(parties: &mut [Party], trace: &Trace, rounds: u64) -> Result<Vec<Duration>, String> {
+    round(parties, trace, false)?;
+    let mut times = vec![Vec::new(); parties.len()];
+    for number in 0..rounds {
+        let turns = round(parties, trace, number % 2 == 0)?;
+        times.iter_mut().zip(turns).for_each(|(all, time)| all.push(time));
+    }
+    Ok(times.into_iter().map(median).collect())
+}
+
+/// How long the turn of each party took.
+fn round(parties: &mut [Party], trace: &Trace, backwards: bool) -> Result<Vec<Duration>, String> {
+    let mut turns = if backwards {
+        parties
+            .iter_mut()
+            .rev()
+            .map(|party| turn(party, trace))
+            .collect::<Result<Vec<_>, _>>()?
+    } else {
+        parties.iter_mut().map(|party| turn(party, trace)).collect::<Result<Vec<_>, _>>()?
+    };
+    if backwards {
+        turns.reverse();
+    }
+    alike(parties, &turns)?;
+    Ok(turns.into_iter().map(|(_, time)| time).collect())
+}
+
+fn turn(party: &mut Party, trace: &Trace) -> Result<(End, Duration), String> {
+    party.side.reset();
+    let begin = clock::of_thread();
+    let end = party.side.run(trace);
+    let time = clock::of_thread() - begin;
+    Ok((end.map_err(|why| format!("{}: {why}", party.name))?, time))
+}
+
+fn alike(parties: &[Party], turns: &[(End, Duration)]) -> Result<(), String> {
+    let (first, _) = &turns[0];
+    let other = turns.iter().position(|(end, _)| !end.agrees(first));
+    other.map_or(Ok(()), |at| {
+        Err(format!(
+            "{} ends with {:?}, {} with {first:?}",
+            parties[at].name, turns[at].0, parties[0].name
+        ))
+    })
+}

@@ -51,8 +51,8 @@ INLINE uint16_t results(const record *r) {
     return (uint16_t)(r->counts >> 16);
 }
 
-/* Each of the following gives what a record of its kind costs: 1 where it is refused, with 10 or by its judgement. It is done where the fuel
- * left covers that; else the world is as before. */
+/* Each of the following gives what a record of its kind costs: 1 where it is refused, with 10 or by its judgement. It is done where the
+ * fuel left covers that; else the world is as before. */
 
 INLINE uint64_t turn_push(world *w, const record *r, uint64_t left) {
     if ((r->front & ~(KIND | CALLER_GIVEN | INSTANCE_GIVEN | HEAD | PARAMS | LOCALS)) | (r->counts & ~SLOTS)

@@ -71,7 +71,8 @@ INLINE void clear(uint64_t *cells, size_t from, size_t to) {
         memset(cells + from, 0, (to - from) * sizeof *cells);
 }
 
-/* Copies cells downwards, or to where they are: so each is read before it is overwritten. A call pays for many cells only. */
+/* Copies cells downwards, or to where they are: so each is read before it is overwritten. Few are copied one by one; the empty asm keeps
+ * the compiler from making a call of that, or a loop over vectors. */
 INLINE void copy(uint64_t *cells, size_t from, size_t to, size_t count) {
     if (count > FEW_CELLS) {
         memmove(cells + to, cells + from, count * sizeof *cells);
@@ -134,17 +135,17 @@ INLINE plan judge_pop(const cattlecleat_state *s, uint64_t *words) {
     return judge_top(s, words);
 }
 
-INLINE floor_four step_pop(cattlecleat_state *s, uint64_t *words, uint64_t instance) {
+INLINE floor_frame step_pop(cattlecleat_state *s, uint64_t *words, uint64_t instance) {
     const uint64_t *gone = top_row(s, words), *below = gone - FRAME_WORDS;
     s->count--;
     if (s->count == 0)
-        return (floor_four){1, 0, 0, 0};
+        return (floor_frame){1, 0, 0, 0};
     if (gone[DEBT_FLAG]) {
         instance = gone[DEBT];
         s->current_flag = 1;
         s->current = instance;
     }
-    return (floor_four){0, below[START], below[IP], instance};
+    return (floor_frame){0, below[START], below[IP], instance};
 }
 
 /* ---- replace: 9, 4, 5, 2, 3, 7 */
@@ -168,6 +169,7 @@ INLINE uint64_t replace_cost(const floor_replace *q) {
     return 1 + (uint64_t)q->locals;
 }
 
+/* Without slots there are no parameters and no locals, and no cell is touched. */
 INLINE void step_replace(cattlecleat_state *s, uint64_t *words, uint64_t *cells, const floor_replace *q, plan p) {
     uint64_t *top = top_row(s, words);
     top[IP] = q->callee;
@@ -180,8 +182,6 @@ INLINE void step_replace(cattlecleat_state *s, uint64_t *words, uint64_t *cells,
         s->current = q->instance;
     }
     s->len = p.len;
-    if (q->slots == 0)
-        return;
     copy(cells, p.start + q->head, p.start, q->params);
     clear(cells, p.start + q->params, p.start + q->locals);
 }
@@ -220,7 +220,7 @@ INLINE uint64_t return_host_cost(const floor_return_host *q) {
     return 1 + (uint64_t)q->params;
 }
 
-INLINE floor_four step_return_host(cattlecleat_state *s, uint64_t *words, uint64_t *cells, const floor_return_host *q, plan p) {
+INLINE floor_frame step_return_host(cattlecleat_state *s, uint64_t *words, uint64_t *cells, const floor_return_host *q, plan p) {
     s->len = p.len;
     copy(cells, p.start + q->head, p.start, q->params);
     return step_pop(s, words, q->instance);

@@ -35,9 +35,9 @@ impl Side for ByValue {
             let answer = raw::ask(state, &mut self.lent.words, &mut self.lent.cells, *request);
             accepted(answer.number)?;
             state = answer.state;
-            let host = (answer.host.start + answer.host.end) as u64;
-            sums.offsets = sums.offsets.wrapping_add(answer.offset as u64);
-            sums.others = sums.others.wrapping_add(answer.ip).wrapping_add(answer.instance).wrapping_add(host);
+            sums.offset(answer.offset);
+            sums.resumed(answer.ip, answer.instance);
+            sums.host(&answer.host);
         }
         self.lent.state = state;
         Ok(self.lent.end(Some(sums)))

@@ -39,20 +39,16 @@ const BYTES: usize = 8 * CELLS;
 
 pub fn run(args: &[String]) -> Verdict {
     let options = Options::read(args, &["records", "rounds", "count"])?;
-    let (records, rounds, count) = (
-        options.number("records", RECORDS),
-        options.number("rounds", ROUNDS),
-        options.number("count", 0),
-    );
+    let (records, rounds) = (options.number("records", RECORDS), options.number("rounds", ROUNDS));
     if records == 0 || rounds == 0 {
         return Err("one record and one round at least".to_string());
     }
     if oracle::DEBUG_ASSERTIONS {
         return Err("this build has debug assertions, which the Rust is not timed with: build it with --release".to_string());
     }
-    let outcome = match count {
-        0 => measured(records as usize, rounds),
-        _ => callgrind::run_all(count as usize),
+    let outcome = match options.number("count", 0) {
+        0 => Bench::new(records as usize, rounds).run(),
+        count => callgrind::run_all(count as usize),
     };
     if let Err(why) = &outcome {
         println!("different: {why}");
@@ -60,32 +56,68 @@ pub fn run(args: &[String]) -> Verdict {
     Ok(outcome.is_ok())
 }
 
-fn measured(records: usize, rounds: u64) -> Result<(), String> {
-    let counts = Counts::take();
-    println!("{}", head(records, rounds, &counts));
-    for way in &mut ways::all()? {
-        filled(way)?;
-        let mut sorts = SORTS.iter();
-        sorts.try_for_each(|sort| print_lines(way, sort, records, rounds, counts.as_ref().ok()))?;
-    }
-    println!("{}", program::line()?);
-    Ok(())
+struct Bench {
+    records: usize,
+    rounds: u64,
+    /// Or why there are none.
+    counts: Result<Counts, String>,
 }
 
-fn head(records: usize, rounds: u64, counts: &Result<Counts, String>) -> String {
-    let counted = match counts {
-        Ok(_) => format!(
-            "instructions: callgrind's a record, of the first {} of each trace",
-            callgrind::RECORDS
-        ),
-        Err(why) => format!("instructions: not counted, {why}"),
-    };
-    format!(
-        "{records} records a trace, medians of {rounds} rounds; release build, the Rust without its debug assertions
-ns: the thread's processor time a record. In each round every party has its turn, in every other one backwards; all end alike
-{counted}
-ratio: to the Rust, inlined, in the same way on the same trace; of C: to C by hand in the same shapes"
-    )
+impl Bench {
+    fn new(records: usize, rounds: u64) -> Self {
+        Self {
+            records,
+            rounds,
+            counts: Counts::take(),
+        }
+    }
+
+    /// Prints a line as soon as it is measured.
+    fn run(&self) -> Result<(), String> {
+        println!("{}", self.head());
+        for way in &mut ways::all()? {
+            filled(way)?;
+            let mut lines = SORTS.iter().map(|sort| self.lines(way, sort));
+            lines.try_for_each(|lines| lines.map(|lines| println!("{}", lines.join("\n"))))?;
+        }
+        println!("{}", program::line()?);
+        Ok(())
+    }
+
+    fn head(&self) -> String {
+        let Self { records, rounds, .. } = self;
+        let counted = match &self.counts {
+            Ok(_) => format!("callgrind's, a record, of the first {} of each trace", callgrind::RECORDS),
+            Err(why) => format!("not counted, {why}"),
+        };
+        format!(
+            "{records} records a trace, medians of {rounds} rounds; release build, the Rust without its debug assertions
+before timing every page of all buffers was written; in a round each party has its turn after a reset, in every other one backwards
+ns: the thread's processor time, a record
+instructions: {counted}
+ratio: to the Rust, inlined, on the same trace in the same way; of C: to C by hand, which has the same shapes"
+        )
+    }
+
+    /// Every party on one trace.
+    fn lines(&self, way: &mut Way, sort: &Sort) -> Result<Vec<String>, String> {
+        let trace = sort.trace(self.records);
+        let loaded = way.parties.iter_mut().try_for_each(|party| party.side.load(&trace));
+        let times = loaded.and_then(|()| medians(&mut way.parties, &trace, self.rounds));
+        let times = times.map_err(|why| format!("{}, {}: {why}", sort.name, way.name))?;
+        let measured = |(party, time): (&Party, Duration)| Measured {
+            party: party.name,
+            role: party.role,
+            nanoseconds: time.as_nanos() as f64 / self.records as f64,
+            instructions: self
+                .counts
+                .as_ref()
+                .ok()
+                .and_then(|counts| counts.of(sort.name, way.name, party.name)),
+        };
+        let all: Vec<Measured> = way.parties.iter().zip(times).map(measured).collect();
+        Ok(lines(sort.name, way.name, &all))
+    }
 }
 
 /// All frames and cells used once by each party: so their pages are there, and the Rust need not grow any more.
@@ -98,21 +130,5 @@ fn filled(way: &mut Way) -> Result<(), String> {
             return Err(format!("{}, filled, ends with {end:?}", party.name));
         }
     }
-    Ok(())
-}
-
-fn print_lines(way: &mut Way, sort: &Sort, records: usize, rounds: u64, counts: Option<&Counts>) -> Result<(), String> {
-    let trace = sort.trace(records);
-    let loaded = way.parties.iter_mut().try_for_each(|party| party.side.load(&trace));
-    let times = loaded.and_then(|()| medians(&mut way.parties, &trace, rounds));
-    let times = times.map_err(|why| format!("{}, {}: {why}", sort.name, way.name))?;
-    let measured = |(party, time): (&Party, Duration)| Measured {
-        party: party.name,
-        role: party.role,
-        nanoseconds: time.as_nanos() as f64 / records as f64,
-        instructions: counts.and_then(|counts| counts.of(sort.name, way.name, party.name)),
-    };
-    let all: Vec<Measured> = way.parties.iter().zip(times).map(measured).collect();
-    lines(sort.name, way.name, &all).iter().for_each(|line| println!("{line}"));
     Ok(())
 }

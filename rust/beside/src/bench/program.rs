@@ -18,10 +18,10 @@ const WORD: &str = "replay";
 const RECORDS: usize = 1_000_000;
 const RUNS: usize = 7;
 
-/// Megabytes a second of processor time, user and system, of both; and the program's peak of memory.
+/// Megabytes a second of processor time, user and system, of both; and the program's peak of memory. Where it cannot be run, why.
 pub fn line() -> Result<String, String> {
-    if !Path::new(PROGRAM).is_file() {
-        return Ok(format!("the program: no {PROGRAM} here"));
+    if let Err(why) = Command::new(PROGRAM).arg("help").stdout(Stdio::null()).status() {
+        return Ok(format!("the program: not timed, {PROGRAM}: {why}"));
     }
     let trace = LISTED.trace(RECORDS);
     let file = Scratch::new("trace")?;
@@ -32,29 +32,31 @@ pub fn line() -> Result<String, String> {
     let megabytes = trace.bytes.len() as f64 / 1e6;
     let rate = |time: Duration| megabytes / time.as_secs_f64();
     Ok(format!(
-        "the program: {RECORDS} records, {megabytes:.0} MB, with its listing to /dev/null: {:.0} MB/s, {:.1} ns a record, {kib} KiB of memory; cat {:.0} MB/s",
+        "the program: {megabytes:.0} MB, {RECORDS} records, and its listing to /dev/null: {:.0} MB/s, {:.1} ns a record, {kib} KiB of memory; \
+        cat of the same file: {:.0} MB/s",
         rate(program),
         program.as_nanos() as f64 / RECORDS as f64,
         rate(cat)
     ))
 }
 
-/// Every record is accepted and printed: a line for each, and all of the cost spent.
+/// Every record has its line, with answer 0 or 1, and all of the cost is spent.
 fn whole_listing(trace: &Trace, file: &Path) -> Result<(), String> {
     let input = File::open(file).map_err(told)?;
     let output = Command::new(PROGRAM).arg(WORD).stdin(input).output().map_err(told)?;
-    let lines = output.stdout.iter().filter(|byte| **byte == b'\n').count();
-    let spent = format!("\nspent {}\n", trace.cost);
-    match lines == RECORDS + 1 && output.stdout.ends_with(spent.as_bytes()) {
-        true => Ok(()),
-        false => Err(format!(
-            "the program prints {lines} lines for {RECORDS} records, and not the cost {}",
-            trace.cost
-        )),
+    let listing = String::from_utf8_lossy(&output.stdout);
+    let end = format!("spent {}\n", trace.cost);
+    let lines = listing
+        .strip_suffix(&end)
+        .ok_or(format!("the program's listing does not end with {end}"))?;
+    let accepted = |line: &&str| matches!(line.split(' ').nth(1), Some("0" | "1"));
+    match lines.lines().filter(accepted).count() {
+        RECORDS => Ok(()),
+        count => Err(format!("the program accepts {count} records of {RECORDS}")),
     }
 }
 
-/// In KiB, read when it has been given all but the end: so it is still there.
+/// In KiB, read when it has been given everything, and before its input ends: so it is still there.
 fn peak_of_memory(trace: &Trace) -> Result<u64, String> {
     let mut child = Command::new(PROGRAM)
         .arg(WORD)

@@ -13,8 +13,8 @@ mod traces;
 
 pub use self::{broken::broken, histories::histories, limits::limits, random::random, tally::Tally, traces::traces};
 
-/// What the cases are made from, for tests of those who are no party.
-#[cfg(test)]
+/// What the cases are made from, for the tests of C by hand, which is no party.
+#[cfg(all(test, floor))]
 pub mod made {
     pub use super::broken::{sound, spoil};
     pub use super::steps::{MOODS, request};

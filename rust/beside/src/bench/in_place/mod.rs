@@ -4,7 +4,7 @@
 pub mod ours;
 mod shapes;
 
-pub use self::shapes::{Five, Four, Host, Push, Replace, ReturnHost, Two};
+pub use self::shapes::{Frame, Host, Hosted, Offset, Push, Replace, ReturnHost, Returned};
 
 use super::lent::{Lent, accepted, requests};
 use super::side::{End, Side, Sums};
@@ -17,11 +17,11 @@ pub type Function<Q, A> = unsafe extern "C" fn(*mut raw::State, *mut u64, usize,
 
 /// The functions of the requests of a call. They take any state, buffers and request, and ask for true pointers and lengths alone.
 pub trait Face {
-    const PUSH: Function<*const Push, Two>;
-    const POP: Function<u64, Four>;
-    const REPLACE: Function<*const Replace, Two>;
-    const HOST: Function<*const Host, Five>;
-    const RETURN_HOST: Function<*const ReturnHost, Five>;
+    const PUSH: Function<*const Push, Offset>;
+    const POP: Function<u64, Frame>;
+    const REPLACE: Function<*const Replace, Offset>;
+    const HOST: Function<*const Host, Hosted>;
+    const RETURN_HOST: Function<*const ReturnHost, Returned>;
 }
 
 /// A request as the functions take it.

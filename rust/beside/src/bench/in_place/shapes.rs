@@ -103,54 +103,71 @@ impl ReturnHost {
 
 /// Of push and replace.
 #[repr(C)]
-pub struct Two {
+pub struct Offset {
     pub number: u64,
-    pub offset: u64,
+    pub offset: usize,
 }
 
 /// Of pop.
 #[repr(C)]
-pub struct Four {
+pub struct Frame {
     pub number: u64,
-    pub offset: u64,
+    pub offset: usize,
     pub ip: u64,
     pub instance: u64,
 }
 
-/// Of host and return-host.
+/// Of host.
 #[repr(C)]
-pub struct Five {
+pub struct Hosted {
     pub number: u64,
-    pub offset: u64,
+    pub offset: usize,
+    pub host: raw::HostFrame,
+}
+
+/// Of return-host.
+#[repr(C)]
+pub struct Returned {
+    pub number: u64,
+    pub offset: usize,
     pub ip: u64,
     pub instance: u64,
     pub host: raw::HostFrame,
 }
 
-impl Two {
-    /// The number, with the rest added up.
+impl Offset {
+    /// The number; the rest is added up.
     #[inline]
     pub fn seen(&self, sums: &mut Sums) -> u64 {
-        sums.offsets = sums.offsets.wrapping_add(self.offset);
+        sums.offset(self.offset);
         self.number
     }
 }
 
-impl Four {
+impl Frame {
     #[inline]
     pub fn seen(&self, sums: &mut Sums) -> u64 {
-        sums.offsets = sums.offsets.wrapping_add(self.offset);
-        sums.others = sums.others.wrapping_add(self.ip).wrapping_add(self.instance);
+        sums.offset(self.offset);
+        sums.resumed(self.ip, self.instance);
         self.number
     }
 }
 
-impl Five {
+impl Hosted {
     #[inline]
     pub fn seen(&self, sums: &mut Sums) -> u64 {
-        let host = (self.host.start + self.host.end) as u64;
-        sums.offsets = sums.offsets.wrapping_add(self.offset);
-        sums.others = sums.others.wrapping_add(self.ip).wrapping_add(self.instance).wrapping_add(host);
+        sums.offset(self.offset);
+        sums.host(&self.host);
+        self.number
+    }
+}
+
+impl Returned {
+    #[inline]
+    pub fn seen(&self, sums: &mut Sums) -> u64 {
+        sums.offset(self.offset);
+        sums.resumed(self.ip, self.instance);
+        sums.host(&self.host);
         self.number
     }
 }

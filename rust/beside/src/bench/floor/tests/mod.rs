@@ -5,9 +5,9 @@ mod records;
 mod requests;
 
 use super::{Floor, replay};
-use crate::bench::in_place::{Face, Five, Four, Host, Push, Replace, ReturnHost, Two, call};
-use crate::party::convert::{flagged, plain_state, raw_request, raw_state};
-use crate::plain::{Answer, HostFrame, Replay, Request, said};
+use crate::bench::in_place::{Face, Frame, Host, Hosted, Offset, Push, Replace, ReturnHost, Returned, call};
+use crate::party::convert::{flagged, plain_host, plain_state, raw_request, raw_state};
+use crate::plain::{Answer, Replay, Request, said};
 use crate::reading::{self, Reading};
 use crate::rng::mix;
 use cattlecleat::raw;
@@ -31,59 +31,50 @@ fn ask_both(stack: &mut Reading, q: &Request, noise: u64) -> Answer {
 /// One of the five kinds that C by hand has functions for.
 fn ask(s: &mut raw::State, words: &mut [u64], cells: &mut [u64], q: &raw::Request) -> Answer {
     match q.kind {
-        1 => two(call(Floor::PUSH, s, words, cells, &Push::of(q))),
-        2 => four(call(Floor::POP, s, words, cells, q.instance)),
-        3 => two(call(Floor::REPLACE, s, words, cells, &Replace::of(q))),
-        4 => five(call(Floor::HOST, s, words, cells, &Host::of(q))),
-        _ => five(call(Floor::RETURN_HOST, s, words, cells, &ReturnHost::of(q))),
+        1 => offset(call(Floor::PUSH, s, words, cells, &Push::of(q))),
+        2 => frame(call(Floor::POP, s, words, cells, q.instance)),
+        3 => offset(call(Floor::REPLACE, s, words, cells, &Replace::of(q))),
+        4 => hosted(call(Floor::HOST, s, words, cells, &Host::of(q))),
+        _ => returned(call(Floor::RETURN_HOST, s, words, cells, &ReturnHost::of(q))),
     }
 }
 
-fn two(Two { number, offset }: Two) -> Answer {
-    Answer {
-        number,
-        offset,
-        ..Answer::default()
-    }
-}
-
-fn four(
-    Four {
-        number,
-        offset,
-        ip,
-        instance,
-    }: Four,
-) -> Answer {
-    Answer {
-        number,
-        offset,
-        ip,
-        instance,
-        ..Answer::default()
-    }
-}
-
-fn five(found: Five) -> Answer {
-    let raw::HostFrame {
-        start,
-        end,
-        params,
-        results,
-    } = found.host;
-    let host = HostFrame {
-        start: start as u64,
-        end: end as u64,
-        params,
-        results,
-    };
+fn offset(found: Offset) -> Answer {
     Answer {
         number: found.number,
-        offset: found.offset,
+        offset: found.offset as u64,
+        ..Answer::default()
+    }
+}
+
+fn frame(found: Frame) -> Answer {
+    Answer {
+        number: found.number,
+        offset: found.offset as u64,
         ip: found.ip,
         instance: found.instance,
-        host,
         ..Answer::default()
+    }
+}
+
+fn hosted(found: Hosted) -> Answer {
+    Answer {
+        number: found.number,
+        offset: found.offset as u64,
+        host: plain_host(&found.host),
+        ..Answer::default()
+    }
+}
+
+fn returned(found: Returned) -> Answer {
+    Answer {
+        host: plain_host(&found.host),
+        ..frame(Frame {
+            number: found.number,
+            offset: found.offset,
+            ip: found.ip,
+            instance: found.instance,
+        })
     }
 }
 

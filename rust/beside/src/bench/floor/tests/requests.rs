@@ -3,7 +3,7 @@
 use super::{ask_both, replay_both};
 use crate::bench::trace::SORTS;
 use crate::drive::made::{MOODS, request, sound, spoil, start_of_run, trace};
-use crate::plain::Replay;
+use crate::plain::{Regs, Replay};
 use crate::reading::{RECORD_BYTES, Reading, read_record};
 use crate::rng::Rng;
 use std::collections::BTreeSet;
@@ -17,10 +17,15 @@ const NUMBERS: [(u64, &[u64]); 5] = [
     (5, &[0, 1, 9, 4, 7, 2, 3]),
 ];
 
-/// A stack, in one of four broken in one or two places.
+/// A stack with any registers, one in four broken in one or two places.
 fn any_stack(rng: &mut Rng) -> Option<Reading> {
     let mood = rng.pick(&MOODS);
     let mut stack = sound(rng, &mood)?;
+    stack.state.regs = Regs {
+        ireg: rng.next(),
+        freg32: rng.next() as u32,
+        freg64: rng.next(),
+    };
     let spoilt = if rng.once_in(4) { rng.range(1, 2) } else { 0 };
     (0..spoilt).for_each(|_| spoil(rng, &mut stack));
     Some(stack)

@@ -57,7 +57,8 @@ fn duration(time: &Timeval) -> Duration {
     Duration::new(time.seconds as u64, 1_000 * time.microseconds as u32)
 }
 
-pub fn median(mut times: Vec<Duration>) -> Duration {
-    times.sort();
-    times[times.len() / 2]
+pub fn median(numbers: impl Iterator<Item = f64>) -> f64 {
+    let mut numbers: Vec<f64> = numbers.collect();
+    numbers.sort_by(f64::total_cmp);
+    numbers[numbers.len() / 2]
 }

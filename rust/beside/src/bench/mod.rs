@@ -22,7 +22,7 @@ mod ways;
 
 use self::callgrind::Counts;
 use self::line::{Measured, lines};
-use self::rounds::medians;
+use self::rounds::times;
 use self::trace::{SORTS, Sort, filling};
 use self::ways::{Party, Way};
 use crate::args::Options;
@@ -95,7 +95,7 @@ impl Bench {
 before timing every page of all buffers was written; in a round each party has its turn after a reset, in every other one backwards
 ns: the thread's processor time, a record
 instructions: {counted}
-ratio: to the Rust, inlined, on the same trace in the same way; of C: to C by hand, which has the same shapes"
+ratio: by round, to the Rust, inlined, on the same trace in the same way; of C: to C by hand, which has the same shapes"
         )
     }
 
@@ -103,12 +103,13 @@ ratio: to the Rust, inlined, on the same trace in the same way; of C: to C by ha
     fn lines(&self, way: &mut Way, sort: &Sort) -> Result<Vec<String>, String> {
         let trace = sort.trace(self.records);
         let loaded = way.parties.iter_mut().try_for_each(|party| party.side.load(&trace));
-        let times = loaded.and_then(|()| medians(&mut way.parties, &trace, self.rounds));
+        let times = loaded.and_then(|()| times(&mut way.parties, &trace, self.rounds));
         let times = times.map_err(|why| format!("{}, {}: {why}", sort.name, way.name))?;
-        let measured = |(party, time): (&Party, Duration)| Measured {
+        let a_record = |time: &Duration| time.as_nanos() as f64 / self.records as f64;
+        let measured = |(party, times): (&Party, Vec<Duration>)| Measured {
             party: party.name,
             role: party.role,
-            nanoseconds: time.as_nanos() as f64 / self.records as f64,
+            nanoseconds: times.iter().map(a_record).collect(),
             instructions: self
                 .counts
                 .as_ref()

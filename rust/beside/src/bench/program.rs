@@ -8,7 +8,6 @@ use std::fs::{self, File};
 use std::io::Write;
 use std::path::Path;
 use std::process::{Command, Stdio};
-use std::time::Duration;
 
 /// From the repository's folder, where `./cattlecleat bench` runs.
 const PROGRAM: &str = "target/bin/cattlecleat";
@@ -30,13 +29,12 @@ pub fn line() -> Result<String, String> {
     let kib = peak_of_memory(&trace)?;
     let [program, cat] = medians(file.path())?;
     let megabytes = trace.bytes.len() as f64 / 1e6;
-    let rate = |time: Duration| megabytes / time.as_secs_f64();
     Ok(format!(
         "the program: {megabytes:.0} MB, {RECORDS} records, and its listing to /dev/null: {:.0} MB/s, {:.1} ns a record, {kib} KiB of memory; \
         cat of the same file: {:.0} MB/s",
-        rate(program),
-        program.as_nanos() as f64 / RECORDS as f64,
-        rate(cat)
+        megabytes / program,
+        program * 1e9 / RECORDS as f64,
+        megabytes / cat
     ))
 }
 
@@ -72,22 +70,22 @@ fn peak_of_memory(trace: &Trace) -> Result<u64, String> {
     written.and(peak)
 }
 
-/// The median times of the program and of cat, in turns.
-fn medians(file: &Path) -> Result<[Duration; 2], String> {
+/// The median seconds of the program and of cat, in turns.
+fn medians(file: &Path) -> Result<[f64; 2], String> {
     let mut times = [Vec::new(), Vec::new()];
     for _ in 0..RUNS {
-        times[0].push(timed(Command::new(PROGRAM).arg(WORD), file)?);
-        times[1].push(timed(&mut Command::new("cat"), file)?);
+        times[0].push(seconds(Command::new(PROGRAM).arg(WORD), file)?);
+        times[1].push(seconds(&mut Command::new("cat"), file)?);
     }
-    Ok(times.map(median))
+    Ok(times.map(|times| median(times.into_iter())))
 }
 
-fn timed(command: &mut Command, file: &Path) -> Result<Duration, String> {
+fn seconds(command: &mut Command, file: &Path) -> Result<f64, String> {
     let input = File::open(file).map_err(told)?;
     let begin = clock::of_children();
     let status = command.stdin(input).stdout(Stdio::null()).status().map_err(told)?;
     match status.success() {
-        true => Ok(clock::of_children() - begin),
+        true => Ok((clock::of_children() - begin).as_secs_f64()),
         false => Err(format!("{command:?}: {status}")),
     }
 }

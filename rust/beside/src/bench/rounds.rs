@@ -1,20 +1,20 @@
 //! Rounds: in each every party has its turn, from a reset, and all have to end alike.
 
-use super::clock::{self, median};
+use super::clock;
 use super::side::End;
 use super::trace::Trace;
 use super::ways::Party;
 use std::time::Duration;
 
-/// The median time of each party. A first round is not timed, and every other one goes backwards.
-pub fn medians(parties: &mut [Party], trace: &Trace, rounds: u64) -> Result<Vec<Duration>, String> {
+/// The times of each party, by round. A first round is not timed, and every other one goes backwards.
+pub fn times(parties: &mut [Party], trace: &Trace, rounds: u64) -> Result<Vec<Vec<Duration>>, String> {
     round(parties, trace, false)?;
     let mut times = vec![Vec::new(); parties.len()];
     for number in 0..rounds {
         let turns = round(parties, trace, number % 2 == 0)?;
         times.iter_mut().zip(turns).for_each(|(all, time)| all.push(time));
     }
-    Ok(times.into_iter().map(median).collect())
+    Ok(times)
 }
 
 /// How long the turn of each party took.

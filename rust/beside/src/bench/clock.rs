@@ -57,6 +57,7 @@ fn duration(time: &Timeval) -> Duration {
     Duration::new(time.seconds as u64, 1_000 * time.microseconds as u32)
 }
 
+/// The middle one of several times, or of ratios of times.
 pub fn median(numbers: impl Iterator<Item = f64>) -> f64 {
     let mut numbers: Vec<f64> = numbers.collect();
     numbers.sort_by(f64::total_cmp);

@@ -121,10 +121,10 @@ ratio: by round, to the Rust, inlined, on the same trace in the same way; of C: 
     }
 }
 
-/// All frames and cells used once by each party: so their pages are there, and the Rust need not grow any more.
+/// All frames and cells used once by each party, the Rust last: so their pages are there, and the Rust need not grow any more.
 fn filled(way: &mut Way) -> Result<(), String> {
     let trace = filling(DEPTH, CELLS);
-    for party in &mut way.parties {
+    for party in way.parties.iter_mut().rev() {
         party.side.load(&trace)?;
         let end = party.side.run(&trace)?;
         if (end.count, end.len) != (DEPTH, CELLS) {

@@ -6,12 +6,13 @@ use super::trace::Trace;
 use super::ways::Party;
 use std::time::Duration;
 
-/// The times of each party, by round. A first round is not timed, and every other one goes backwards.
+/// The times of each party, by round. Every other round goes backwards. The first one does, and is not timed: so ours goes before the Rust,
+/// which has no answer to what is refused.
 pub fn times(parties: &mut [Party], trace: &Trace, rounds: u64) -> Result<Vec<Vec<Duration>>, String> {
-    round(parties, trace, false)?;
+    round(parties, trace, true)?;
     let mut times = vec![Vec::new(); parties.len()];
     for number in 0..rounds {
-        let turns = round(parties, trace, number % 2 == 0)?;
+        let turns = round(parties, trace, number % 2 == 1)?;
         times.iter_mut().zip(turns).for_each(|(all, time)| all.push(time));
     }
     Ok(times)
@@ -19,15 +20,11 @@ pub fn times(parties: &mut [Party], trace: &Trace, rounds: u64) -> Result<Vec<Ve
 
 /// How long the turn of each party took.
 fn round(parties: &mut [Party], trace: &Trace, backwards: bool) -> Result<Vec<Duration>, String> {
-    let mut turns = if backwards {
-        parties
-            .iter_mut()
-            .rev()
-            .map(|party| turn(party, trace))
-            .collect::<Result<Vec<_>, _>>()?
-    } else {
-        parties.iter_mut().map(|party| turn(party, trace)).collect::<Result<Vec<_>, _>>()?
+    let turns: Result<Vec<_>, String> = match backwards {
+        false => parties.iter_mut().map(|party| turn(party, trace)).collect(),
+        true => parties.iter_mut().rev().map(|party| turn(party, trace)).collect(),
     };
+    let mut turns = turns?;
     if backwards {
         turns.reverse();
     }

@@ -12,7 +12,7 @@ use oracle::engine::{
     },
 };
 
-/// `lean::ask_all`, or `lean::ask_all`.
+/// `lean::ask_all`, or `lean::call_all`.
 type AskAll = unsafe fn(&mut Stack, &[Request]) -> Result<lean::Sums, TrapCode>;
 
 /// Requests that were decoded beforehand.
@@ -53,7 +53,7 @@ impl Side for Asked {
     }
 
     fn run(&mut self, _: &Trace) -> Result<End, String> {
-        // SAFETY: document 01 accepts every request of a trace that is timed.
+        // SAFETY: document 01 accepts every request of a trace that is timed, and ours has done so with each one before this.
         let sums = unsafe { (self.ask_all)(&mut self.stack, &self.requests) }.map_err(trapped)?;
         Ok(end(&self.stack, sums))
     }
@@ -80,7 +80,7 @@ impl Side for Replayed {
     }
 
     fn run(&mut self, trace: &Trace) -> Result<End, String> {
-        // SAFETY: document 01 accepts every request of a trace that is timed.
+        // SAFETY: as for `Asked`.
         match unsafe { lean::replay(&mut self.stack, &trace.bytes) }.map_err(trapped)? {
             (sums, 0) => Ok(end(&self.stack, sums)),
             (_, bad) => Err(format!("the Rust cannot read {bad} records")),

@@ -11,14 +11,17 @@ unsafe extern "C" {
     fn floor_push_frame(s: *mut State, words: *mut u64, words_len: usize, cells: *mut u64, cells_len: usize, q: *const Push) -> Offset;
     fn floor_pop_frame(s: *mut State, words: *mut u64, words_len: usize, cells: *mut u64, cells_len: usize, instance: u64) -> Frame;
     fn floor_replace_frame(s: *mut State, words: *mut u64, words_len: usize, cells: *mut u64, cells_len: usize, q: *const Replace) -> Offset;
-    fn floor_prepare_host_frame(s: *mut State, words: *mut u64, words_len: usize, cells: *mut u64, cells_len: usize, q: *const Host) -> Hosted;
-    fn floor_return_prepare_host_frame(s: *mut State, words: *mut u64, words_len: usize, cells: *mut u64, cells_len: usize, q: *const ReturnHost) -> Returned;
+    fn floor_prepare_host_frame(s: *mut State, words: *mut u64, words_len: usize, cells: *mut u64, cells_len: usize, q: *const Host)
+        -> Hosted;
+    fn floor_return_prepare_host_frame(s: *mut State, words: *mut u64, words_len: usize, cells: *mut u64, cells_len: usize,
+        q: *const ReturnHost) -> Returned;
     fn floor_replay(run: Run, words: *mut u64, words_len: usize, cells: *mut u64, cells_len: usize, trace: *const u8, trace_len: usize) -> Run;
 }
 
 pub struct Floor;
 
-impl Face for Floor {
+// SAFETY: as the archive's (c/floor.h).
+unsafe impl Face for Floor {
     const PUSH: Function<*const Push, Offset> = floor_push_frame;
     const POP: Function<u64, Frame> = floor_pop_frame;
     const REPLACE: Function<*const Replace, Offset> = floor_replace_frame;
@@ -27,15 +30,14 @@ impl Face for Floor {
 }
 
 pub fn replay(run: Run, words: &mut [u64], cells: &mut [u64], trace: &[u8]) -> Run {
-    let (words_len, cells_len) = (words.len(), cells.len());
     // SAFETY: slices are true and aligned pointers with their lengths, and `&mut` ones overlap nothing.
     unsafe {
         floor_replay(
             run,
             words.as_mut_ptr(),
-            words_len,
+            words.len(),
             cells.as_mut_ptr(),
-            cells_len,
+            cells.len(),
             trace.as_ptr(),
             trace.len(),
         )

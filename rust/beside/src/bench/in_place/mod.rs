@@ -15,8 +15,12 @@ use std::marker::PhantomData;
 /// A function of the archive's C convention on a state, its two buffers and a request.
 pub type Function<Q, A> = unsafe extern "C" fn(*mut raw::State, *mut u64, usize, *mut u64, usize, Q) -> A;
 
-/// The functions of the requests of a call. They take any state, buffers and request, and ask for true pointers and lengths alone.
-pub trait Face {
+/// The functions of the requests of a call.
+///
+/// # Safety
+///
+/// They take any state, buffers and request, and ask for true and aligned pointers with their lengths alone, which do not overlap.
+pub unsafe trait Face {
     const PUSH: Function<*const Push, Offset>;
     const POP: Function<u64, Frame>;
     const REPLACE: Function<*const Replace, Offset>;
@@ -87,18 +91,26 @@ impl Asked {
     /// The answer's number; what is handed back beside it is added up.
     #[inline]
     fn ask<F: Face>(&self, s: &mut raw::State, words: &mut [u64], cells: &mut [u64], sums: &mut Sums) -> u64 {
-        match self {
-            Self::Push(q) => call(F::PUSH, s, words, cells, q).seen(sums),
-            Self::Pop(instance) => call(F::POP, s, words, cells, *instance).seen(sums),
-            Self::Replace(q) => call(F::REPLACE, s, words, cells, q).seen(sums),
-            Self::Host(q) => call(F::HOST, s, words, cells, q).seen(sums),
-            Self::ReturnHost(q) => call(F::RETURN_HOST, s, words, cells, q).seen(sums),
+        // SAFETY: the functions are a face's.
+        unsafe {
+            match self {
+                Self::Push(q) => call(F::PUSH, s, words, cells, q).seen(sums),
+                Self::Pop(instance) => call(F::POP, s, words, cells, *instance).seen(sums),
+                Self::Replace(q) => call(F::REPLACE, s, words, cells, q).seen(sums),
+                Self::Host(q) => call(F::HOST, s, words, cells, q).seen(sums),
+                Self::ReturnHost(q) => call(F::RETURN_HOST, s, words, cells, q).seen(sums),
+            }
         }
     }
 }
 
+/// Calls a function on slices, which are true and aligned pointers with their lengths.
+///
+/// # Safety
+///
+/// The function is a [`Face`]'s, and `q` a number or made from a reference.
 #[inline]
-pub fn call<Q, A>(function: Function<Q, A>, s: &mut raw::State, words: &mut [u64], cells: &mut [u64], q: Q) -> A {
-    // SAFETY: a slice is a true and aligned pointer with its length, `&mut` overlap nothing, and `q` is a number or made from a reference.
+pub unsafe fn call<Q, A>(function: Function<Q, A>, s: &mut raw::State, words: &mut [u64], cells: &mut [u64], q: Q) -> A {
+    // SAFETY: as the caller says; and `&mut` overlap nothing.
     unsafe { function(s, words.as_mut_ptr(), words.len(), cells.as_mut_ptr(), cells.len(), q) }
 }

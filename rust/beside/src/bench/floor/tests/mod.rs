@@ -12,7 +12,7 @@ use crate::reading::{self, Reading};
 use crate::rng::mix;
 use cattlecleat::raw;
 
-/// Asks both, and has the reading go on. What must not matter is filled from a number. The answer.
+/// Asks both, and has the reading go on: the answer. What must not matter is filled from a number.
 fn ask_both(stack: &mut Reading, q: &Request, noise: u64) -> Answer {
     let came = raw_state(&stack.state, mix(noise));
     let (mut state, mut words, mut cells) = (came, stack.words.clone(), stack.cells.clone());
@@ -30,12 +30,15 @@ fn ask_both(stack: &mut Reading, q: &Request, noise: u64) -> Answer {
 
 /// One of the five kinds that C by hand has functions for.
 fn ask(s: &mut raw::State, words: &mut [u64], cells: &mut [u64], q: &raw::Request) -> Answer {
-    match q.kind {
-        1 => offset(call(Floor::PUSH, s, words, cells, &Push::of(q))),
-        2 => frame(call(Floor::POP, s, words, cells, q.instance)),
-        3 => offset(call(Floor::REPLACE, s, words, cells, &Replace::of(q))),
-        4 => hosted(call(Floor::HOST, s, words, cells, &Host::of(q))),
-        _ => returned(call(Floor::RETURN_HOST, s, words, cells, &ReturnHost::of(q))),
+    // SAFETY: the functions are a face's.
+    unsafe {
+        match q.kind {
+            1 => offset(call(Floor::PUSH, s, words, cells, &Push::of(q))),
+            2 => frame(call(Floor::POP, s, words, cells, q.instance)),
+            3 => offset(call(Floor::REPLACE, s, words, cells, &Replace::of(q))),
+            4 => hosted(call(Floor::HOST, s, words, cells, &Host::of(q))),
+            _ => returned(call(Floor::RETURN_HOST, s, words, cells, &ReturnHost::of(q))),
+        }
     }
 }
 

@@ -1,11 +1,12 @@
 //! Instructions, as valgrind's callgrind counts them: it runs this program again, on fewer records.
 
+mod request;
+mod runs;
+
+pub use self::runs::run_all;
+
 use super::scratch::Scratch;
-use super::trace::{SORTS, Trace};
-use super::ways::{self, Party, Way};
-use std::arch::asm;
 use std::collections::HashMap;
-use std::ffi::CString;
 use std::process::{Command, Stdio};
 use std::{env, fs};
 
@@ -62,70 +63,6 @@ fn read(text: &str) -> HashMap<String, u64> {
 
 fn run_name(trace: &str, way: &str, party: &str) -> String {
     format!("{trace}, {way}, {party}")
-}
-
-/// What callgrind runs: every party on the beginning of each trace.
-pub fn run_all(records: usize) -> Result<(), String> {
-    let traces = SORTS.map(|sort| (sort.name, sort.trace(records)));
-    ways::all()?.iter_mut().try_for_each(|way| run_way(way, &traces))
-}
-
-fn run_way(way: &mut Way, traces: &[(&str, Trace)]) -> Result<(), String> {
-    for (name, trace) in traces {
-        let mut parties = way.parties.iter_mut();
-        parties.try_for_each(|party| run_party(party, trace, &run_name(name, way.name, party.name)))?;
-    }
-    Ok(())
-}
-
-/// Twice, and the second run is counted: in the first one the Rust's buffers grow.
-fn run_party(party: &mut Party, trace: &Trace, name: &str) -> Result<(), String> {
-    let name = CString::new(name).map_err(|error| error.to_string())?;
-    let side = &mut party.side;
-    side.load(trace)?;
-    side.reset();
-    side.run(trace)?;
-    side.reset();
-    zero_counts();
-    side.run(trace)?;
-    dump_counts(&name);
-    Ok(())
-}
-
-/// `CALLGRIND_ZERO_STATS` and `CALLGRIND_DUMP_STATS_AT` of valgrind/callgrind.h.
-const ZERO: u64 = 0x4354_0001;
-const DUMP_AT: u64 = 0x4354_0003;
-
-fn zero_counts() {
-    // SAFETY: the request takes nothing.
-    unsafe { client_request(ZERO, 0) };
-}
-
-fn dump_counts(name: &CString) {
-    // SAFETY: the request takes the address of a C string.
-    unsafe { client_request(DUMP_AT, name.as_ptr() as u64) };
-}
-
-/// The instructions that valgrind takes as a request to itself. A processor turns rdi around twice, and no more.
-///
-/// # Safety
-///
-/// The request gets what it takes.
-unsafe fn client_request(request: u64, argument: u64) {
-    let request = [request, argument, 0, 0, 0, 0];
-    // SAFETY: rdi and rbx are as before; valgrind reads the six words, and writes its answer to rdx.
-    unsafe {
-        asm!(
-            "rol rdi, 3",
-            "rol rdi, 13",
-            "rol rdi, 61",
-            "rol rdi, 51",
-            "xchg rbx, rbx",
-            in("rax") &request,
-            inout("rdx") 0_u64 => _,
-            options(nostack)
-        );
-    }
 }
 
 #[cfg(test)]

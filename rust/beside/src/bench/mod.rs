@@ -1,22 +1,33 @@
-//! `beside bench`: ours over the archive beside the Rust, on the same traces, in one run.
+//! `beside bench`: ours over the archive beside the Rust and beside C by hand, on the same traces, in one run.
 //!
-//! Both ways of a host are timed: requests decoded beforehand, and decoded in the loop from the trace's bytes.
+//! Both ways of a host are measured: a call for each request, decoded beforehand; and whole traces, decoded in the loop.
 
-mod ours;
+mod by_value;
+mod callgrind;
+mod clock;
+#[cfg(floor)]
+mod floor;
+#[cfg(any(floor, feature = "in-place"))]
+mod in_place;
+mod lent;
+mod line;
+mod program;
+mod replayed;
+mod rounds;
 mod rust;
+mod scratch;
 mod side;
 mod trace;
+mod ways;
 
-use self::{
-    ours::Ours,
-    rust::Rust,
-    side::{End, Side, Way},
-    trace::{SORTS, Trace, filling},
-};
+use self::callgrind::Counts;
+use self::line::{Measured, lines};
+use self::rounds::times;
+use self::trace::{SORTS, Sort, filling};
+use self::ways::{Party, Way};
 use crate::args::Options;
 use crate::command::Verdict;
-use crate::reading::RECORD_BYTES;
-use std::time::{Duration, Instant};
+use std::time::Duration;
 
 const RECORDS: u64 = 1_000_000;
 const ROUNDS: u64 = 7;
@@ -27,7 +38,7 @@ const CELLS: usize = 1_048_576;
 const BYTES: usize = 8 * CELLS;
 
 pub fn run(args: &[String]) -> Verdict {
-    let options = Options::read(args, &["records", "rounds"])?;
+    let options = Options::read(args, &["records", "rounds", "count"])?;
     let (records, rounds) = (options.number("records", RECORDS), options.number("rounds", ROUNDS));
     if records == 0 || rounds == 0 {
         return Err("one record and one round at least".to_string());
@@ -35,85 +46,90 @@ pub fn run(args: &[String]) -> Verdict {
     if oracle::DEBUG_ASSERTIONS {
         return Err("this build has debug assertions, which the Rust is not timed with: build it with --release".to_string());
     }
-    println!("{records} records a trace, medians of {rounds} rounds; release build, the Rust without its debug assertions");
-    println!("before timing every page of both sides' buffers was written; before every round both sides are reset");
-    let outcome = all_traces(records as usize, rounds);
+    let outcome = match options.number("count", 0) {
+        0 => Bench::new(records as usize, rounds).run(),
+        count => callgrind::run_all(count as usize),
+    };
     if let Err(why) = &outcome {
         println!("different: {why}");
     }
     Ok(outcome.is_ok())
 }
 
-fn all_traces(records: usize, rounds: u64) -> Result<(), String> {
-    let (mut ours, mut rust) = filled()?;
-    for sort in SORTS {
-        let trace = sort.trace(records);
-        ours.load(&trace)?;
-        rust.load(&trace)?;
-        for way in [Way::DecodedBefore, Way::InTheLoop] {
-            let times = timed(&mut ours, &mut rust, way, &trace, rounds).map_err(|why| format!("{}, {}: {why}", sort.name, way.name()))?;
-            println!("{}", line(sort.name, way, records, times));
+struct Bench {
+    records: usize,
+    rounds: u64,
+    /// Or why there are none.
+    counts: Result<Counts, String>,
+}
+
+impl Bench {
+    fn new(records: usize, rounds: u64) -> Self {
+        Self {
+            records,
+            rounds,
+            counts: Counts::take(),
+        }
+    }
+
+    /// Prints a line as soon as it is measured.
+    fn run(&self) -> Result<(), String> {
+        println!("{}", self.head());
+        for way in &mut ways::all()? {
+            filled(way)?;
+            let mut lines = SORTS.iter().map(|sort| self.lines(way, sort));
+            lines.try_for_each(|lines| lines.map(|lines| println!("{}", lines.join("\n"))))?;
+        }
+        println!("{}", program::line()?);
+        Ok(())
+    }
+
+    fn head(&self) -> String {
+        let Self { records, rounds, .. } = self;
+        let counted = match &self.counts {
+            Ok(_) => format!("callgrind's, a record, of the first {} of each trace", callgrind::RECORDS),
+            Err(why) => format!("not counted, {why}"),
+        };
+        format!(
+            "{records} records a trace, medians of {rounds} rounds; release build, the Rust without its debug assertions
+before timing every page of all buffers was written; in a round each party has its turn after a reset, in every other one backwards
+ns: the thread's processor time, a record
+instructions: {counted}
+ratio: by round, to the Rust, inlined, on the same trace in the same way; of C: to C by hand, which has the same shapes"
+        )
+    }
+
+    /// Every party on one trace.
+    fn lines(&self, way: &mut Way, sort: &Sort) -> Result<Vec<String>, String> {
+        let trace = sort.trace(self.records);
+        let loaded = way.parties.iter_mut().try_for_each(|party| party.side.load(&trace));
+        let times = loaded.and_then(|()| times(&mut way.parties, &trace, self.rounds));
+        let times = times.map_err(|why| format!("{}, {}: {why}", sort.name, way.name))?;
+        let a_record = |time: &Duration| time.as_nanos() as f64 / self.records as f64;
+        let measured = |(party, times): (&Party, Vec<Duration>)| Measured {
+            party: party.name,
+            role: party.role,
+            nanoseconds: times.iter().map(a_record).collect(),
+            instructions: self
+                .counts
+                .as_ref()
+                .ok()
+                .and_then(|counts| counts.of(sort.name, way.name, party.name)),
+        };
+        let all: Vec<Measured> = way.parties.iter().zip(times).map(measured).collect();
+        Ok(lines(sort.name, way.name, &all))
+    }
+}
+
+/// All frames and cells used once by each party, the Rust last: so their pages are there, and the Rust need not grow any more.
+fn filled(way: &mut Way) -> Result<(), String> {
+    let trace = filling(DEPTH, CELLS);
+    for party in way.parties.iter_mut().rev() {
+        party.side.load(&trace)?;
+        let end = party.side.run(&trace)?;
+        if (end.count, end.len) != (DEPTH, CELLS) {
+            return Err(format!("{}, filled, ends with {end:?}", party.name));
         }
     }
     Ok(())
-}
-
-/// Both sides with all frames and cells used once: so their pages are there, and the Rust need not grow any more.
-fn filled() -> Result<(Ours, Rust), String> {
-    let (mut ours, mut rust) = (Ours::open()?, Rust::open());
-    let trace = filling(DEPTH, CELLS);
-    ours.load(&trace)?;
-    rust.load(&trace)?;
-    let ends = [ours.run(Way::DecodedBefore, &trace)?, rust.run(Way::DecodedBefore, &trace)?];
-    match ends.iter().all(|end| (end.count, end.len) == (DEPTH, CELLS)) {
-        true => Ok((ours, rust)),
-        false => Err(format!("the filled stacks end with {ends:?}")),
-    }
-}
-
-/// The medians of ours and of the Rust, after a round that is not timed. Every other round the Rust goes first.
-fn timed(ours: &mut Ours, rust: &mut Rust, way: Way, trace: &Trace, rounds: u64) -> Result<[Duration; 2], String> {
-    round([ours, rust], way, trace)?;
-    let (mut of_ours, mut of_rust) = (Vec::new(), Vec::new());
-    for number in 0..rounds {
-        let [first, second] = match number % 2 {
-            0 => round([ours, rust], way, trace)?,
-            _ => round([rust, ours], way, trace).map(|[rust, ours]| [ours, rust])?,
-        };
-        of_ours.push(first);
-        of_rust.push(second);
-    }
-    Ok([median(of_ours), median(of_rust)])
-}
-
-/// Runs one side and then the other, each from a reset; they must end alike.
-fn round([first, second]: [&mut dyn Side; 2], way: Way, trace: &Trace) -> Result<[Duration; 2], String> {
-    let (first_end, first_time) = once(first, way, trace)?;
-    let (second_end, second_time) = once(second, way, trace)?;
-    match first_end.agrees(&second_end) {
-        true => Ok([first_time, second_time]),
-        false => Err(format!("one side ends with {first_end:?}, the other with {second_end:?}")),
-    }
-}
-
-fn once(side: &mut dyn Side, way: Way, trace: &Trace) -> Result<(End, Duration), String> {
-    side.reset();
-    let begin = Instant::now();
-    let end = side.run(way, trace)?;
-    Ok((end, begin.elapsed()))
-}
-
-fn median(mut times: Vec<Duration>) -> Duration {
-    times.sort();
-    times[times.len() / 2]
-}
-
-fn line(name: &str, way: Way, records: usize, times: [Duration; 2]) -> String {
-    let [ours, rust] = times.map(|time| time.as_nanos() as f64 / records as f64);
-    let rate = RECORD_BYTES as f64 / ours * 1_000.0;
-    let ratio = ours / rust;
-    format!(
-        "{name:<15}  {:<14}  ours {ours:8.2} ns/record  Rust {rust:8.2} ns/record  {rate:8.1} MB/s  ratio {ratio:.2}",
-        way.name()
-    )
 }

@@ -1,42 +1,46 @@
 //! The Rust of wasmi, driven as its interpreter drives it.
 
-use super::{
-    BYTES, DEPTH,
-    side::{End, Side, Way},
-    trace::Trace,
-};
+use super::side::{End, Side, Sums};
+use super::trace::Trace;
+use super::{BYTES, DEPTH};
 use oracle::TrapCode;
 use oracle::engine::{
     StackConfig,
     executor::handler::state::{
         Stack,
-        lean::{self, Request, Sums},
+        lean::{self, Request},
     },
 };
 
-pub struct Rust {
+/// `lean::ask_all`, or `lean::call_all`.
+type AskAll = unsafe fn(&mut Stack, &[Request]) -> Result<lean::Sums, TrapCode>;
+
+/// Requests that were decoded beforehand.
+pub struct Asked {
     stack: Stack,
     requests: Vec<Request>,
+    ask_all: AskAll,
 }
 
-impl Rust {
-    pub fn open() -> Self {
+impl Asked {
+    pub fn inlined() -> Self {
+        Self::by(lean::ask_all)
+    }
+
+    pub fn behind_a_call() -> Self {
+        Self::by(lean::call_all)
+    }
+
+    fn by(ask_all: AskAll) -> Self {
         Self {
-            stack: Stack::new(&StackConfig::new(0, BYTES, DEPTH)),
+            stack: opened(),
             requests: Vec::new(),
-        }
-    }
-
-    fn replay(&mut self, trace: &Trace) -> Result<Sums, String> {
-        // SAFETY: as in `run`.
-        match unsafe { lean::replay(&mut self.stack, &trace.bytes) }.map_err(trapped)? {
-            (sums, 0) => Ok(sums),
-            (_, bad) => Err(format!("the Rust cannot read {bad} records")),
+            ask_all,
         }
     }
 }
 
-impl Side for Rust {
+impl Side for Asked {
     fn load(&mut self, trace: &Trace) -> Result<(), String> {
         let (records, _) = trace.bytes.as_chunks();
         let requests: Option<Vec<Request>> = records.iter().map(lean::read_record).collect();
@@ -48,17 +52,51 @@ impl Side for Rust {
         self.stack.reset();
     }
 
-    fn run(&mut self, way: Way, trace: &Trace) -> Result<End, String> {
-        let sums = match way {
-            // SAFETY: document 01 accepts every request of a trace that is timed, and ours has done so with each one before this.
-            Way::DecodedBefore => unsafe { lean::ask_all(&mut self.stack, &self.requests) }.map_err(trapped)?,
-            Way::InTheLoop => self.replay(trace)?,
-        };
-        Ok(End {
-            count: self.stack.count(),
-            len: self.stack.cells_len(),
-            sums: Some((sums.offsets, sums.others)),
-        })
+    fn run(&mut self, _: &Trace) -> Result<End, String> {
+        // SAFETY: document 01 accepts every request of a trace that is timed, and ours has done so with each one before this.
+        let sums = unsafe { (self.ask_all)(&mut self.stack, &self.requests) }.map_err(trapped)?;
+        Ok(end(&self.stack, sums))
+    }
+}
+
+/// Requests that are decoded in the loop.
+pub struct Replayed {
+    stack: Stack,
+}
+
+impl Replayed {
+    pub fn open() -> Self {
+        Self { stack: opened() }
+    }
+}
+
+impl Side for Replayed {
+    fn load(&mut self, _: &Trace) -> Result<(), String> {
+        Ok(())
+    }
+
+    fn reset(&mut self) {
+        self.stack.reset();
+    }
+
+    fn run(&mut self, trace: &Trace) -> Result<End, String> {
+        // SAFETY: as for `Asked`.
+        match unsafe { lean::replay(&mut self.stack, &trace.bytes) }.map_err(trapped)? {
+            (sums, 0) => Ok(end(&self.stack, sums)),
+            (_, bad) => Err(format!("the Rust cannot read {bad} records")),
+        }
+    }
+}
+
+fn opened() -> Stack {
+    Stack::new(&StackConfig::new(0, BYTES, DEPTH))
+}
+
+fn end(stack: &Stack, lean::Sums { offsets, others }: lean::Sums) -> End {
+    End {
+        count: stack.count(),
+        len: stack.cells_len(),
+        sums: Some(Sums { offsets, others }),
     }
 }
 

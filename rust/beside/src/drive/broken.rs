@@ -40,7 +40,7 @@ fn broken_case(rng: &mut Rng) -> Option<Case> {
 }
 
 /// A stack with few cells after some requests; nothing where it does not open.
-fn sound(rng: &mut Rng, mood: &Mood) -> Option<Reading> {
+pub fn sound(rng: &mut Rng, mood: &Mood) -> Option<Reading> {
     let mut opening = openings::any(rng);
     opening.cells = opening.cells.min(24);
     let (words, cells) = opening.buffers();
@@ -54,7 +54,7 @@ fn sound(rng: &mut Rng, mood: &Mood) -> Option<Reading> {
 }
 
 /// Breaks one thing, or moves it to where it is just not broken.
-fn spoil(rng: &mut Rng, stack: &mut Reading) {
+pub fn spoil(rng: &mut Rng, stack: &mut Reading) {
     let s = &mut stack.state;
     match rng.below(12) {
         0 => s.depth = wrong(rng, s.depth, 65_536),

@@ -13,6 +13,14 @@ mod traces;
 
 pub use self::{broken::broken, histories::histories, limits::limits, random::random, tally::Tally, traces::traces};
 
+/// What the cases are made from, for the tests of C by hand, which is no party.
+#[cfg(all(test, floor))]
+pub mod made {
+    pub use super::broken::{sound, spoil};
+    pub use super::steps::{MOODS, request};
+    pub use super::traces::{start_of_run, trace};
+}
+
 use crate::case::{Case, Start, Step};
 use crate::party::Table;
 

@@ -42,7 +42,7 @@ fn opened(rng: &mut Rng) -> Reading {
 }
 
 /// Written by the reading from requests that follow one another, then spoilt.
-fn trace(rng: &mut Rng, mut stack: Reading) -> Vec<u8> {
+pub fn trace(rng: &mut Rng, mut stack: Reading) -> Vec<u8> {
     let mut trace = vec![0; RECORD_BYTES * rng.below(8) as usize];
     for at in (0..trace.len()).step_by(RECORD_BYTES) {
         let q = any_request(rng, &stack);
@@ -103,7 +103,7 @@ fn place(rng: &mut Rng, length: u64) -> u64 {
 }
 
 /// The beginning, the middle or the end of a run.
-fn start_of_run(rng: &mut Rng) -> Replay {
+pub fn start_of_run(rng: &mut Rng) -> Replay {
     let fuel = if rng.once_in(2) { rng.below(40) } else { u64::MAX };
     let spent = if rng.once_in(4) { rng.below(40).min(fuel) } else { 0 };
     let stopped = rng.once_in(16).then(|| rng.below(9));

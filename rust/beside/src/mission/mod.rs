@@ -3,7 +3,6 @@
 //! Full depth, full length, one more of each refused, and every frame handed back as it was put down.
 
 mod climb;
-mod peak;
 mod worlds;
 
 use self::climb::{CELLS, Climb, DEPTH};
@@ -11,6 +10,7 @@ use self::worlds::Worlds;
 use crate::case::{FRAME_WORDS, Opening};
 use crate::command::Verdict;
 use crate::command::said::{ready, said};
+use crate::peak;
 
 /// The memory that the whole program may have had at its peak.
 const MOST_MIB: u64 = 512;
@@ -32,7 +32,7 @@ pub fn run(args: &[String]) -> Verdict {
 /// How many requests and openings there were, and the peak of memory in MiB.
 pub fn compared() -> Result<(u64, u64), String> {
     let requests = openings()? + full()? + without_the_last_cell()?;
-    let peak = peak::mib()?;
+    let peak = peak::kib("self")?.div_ceil(1024);
     if peak > MOST_MIB {
         return Err(format!("the peak of memory is {peak} MiB, above {MOST_MIB}"));
     }

@@ -1,0 +1,71 @@
+//! The two ways of a host, and who takes part in each.
+
+use super::by_value::ByValue;
+#[cfg(floor)]
+use super::floor::{self, Floor};
+#[cfg(any(floor, feature = "in-place"))]
+use super::in_place::InPlace;
+#[cfg(feature = "in-place")]
+use super::in_place::ours::Ours;
+use super::replayed::Replayed;
+use super::rust;
+use super::side::Side;
+use cattlecleat::raw;
+
+pub const BY_HAND: &str = "C by hand, every check";
+
+pub struct Way {
+    pub name: &'static str,
+    /// The Rust is the first: the others are measured by it.
+    pub parties: Vec<Party>,
+}
+
+pub struct Party {
+    pub name: &'static str,
+    pub role: Role,
+    pub side: Box<dyn Side>,
+}
+
+#[derive(Clone, Copy, PartialEq, Eq)]
+pub enum Role {
+    /// Measured by the Rust alone.
+    Plain,
+    /// In the shapes of C by hand, and measured by that too.
+    LikeFloor,
+    /// C by hand.
+    Floor,
+}
+
+/// Every party has a stack of its own. Without a C compiler there is no C by hand.
+pub fn all() -> Result<[Way; 2], String> {
+    let requests = Way {
+        name: "one call a request",
+        parties: vec![
+            party("the Rust, inlined", Role::Plain, rust::Asked::inlined()),
+            party("the Rust behind a call", Role::Plain, rust::Asked::behind_a_call()),
+            party("ours, by value", Role::Plain, ByValue::open()?),
+            #[cfg(feature = "in-place")]
+            party("ours, in place", Role::LikeFloor, InPlace::<Ours>::open()?),
+            #[cfg(floor)]
+            party(BY_HAND, Role::Floor, InPlace::<Floor>::open()?),
+        ],
+    };
+    let traces = Way {
+        name: "in the loop",
+        parties: vec![
+            party("the Rust, inlined", Role::Plain, rust::Replayed::open()),
+            party("ours", Role::LikeFloor, Replayed::open(raw::replay)?),
+            #[cfg(floor)]
+            party(BY_HAND, Role::Floor, Replayed::open(floor::replay)?),
+        ],
+    };
+    Ok([requests, traces])
+}
+
+fn party(name: &'static str, role: Role, side: impl Side + 'static) -> Party {
+    Party {
+        name,
+        role,
+        side: Box::new(side),
+    }
+}

@@ -2,6 +2,7 @@
 --     broken-says, kept-says       a record that breaks the rules of its kind's row, or keeps them
 --     says-push, .. says-set       the request of each kind
 --     no-kind-says                 a kind that is none of the nine
+--     request-says                 the record of a request says it
 --     fields-say, fields-say-none  the record at a place, by what its numbers gave
 use mathlib.Core.Path.{_≡_, refl, sym, ap, _∙_}
 use mathlib.Core.Bool.{Bool, true, false, not}
@@ -23,8 +24,9 @@ use Rattle.rules.specs.declared.Request.{Request}
 use Rattle.rules.specs.declared.Request.the-variants.{Push, Pop, Replace, Host, ReturnHost, Sync, Restore, Reset, Set}
 use Rattle.request.specs.declared.Decoded.{Decoded}
 use Rattle.request.specs.declared.Decoded.the-variants.{Asks, Bad}
-use Rattle.request.specs.Requests.{pushIn, replaceIn, hostIn, returnHostIn, requestIn}
+use Rattle.request.specs.Requests.{recordFor, pushIn, replaceIn, hostIn, returnHostIn, requestIn}
 use Rattle.request.specs.Entries.{entryAt}
+use Rattle.request.proofs.Meanings.{request-said, request-lawful}
 use Rattle.request.proofs.Nexts.{next-found, next-bad}
 use Rattle.request.proofs.Entries.{entry-asks, entry-bad}
 use Rattle.replay.specs.ByKind.{entryFor}
@@ -92,6 +94,11 @@ module _ (r : Record) where
       → (r .kind ≡ 8 → ⊥) → (r .kind ≡ 9 → ⊥) → Bad ≡ entryFor r
   unfolding entryFor
   no-kind-says a b c d e f g h i = chosen-second _ _ _ _ _ (sym (none-of-nine a b c d e f g h i)) refl
+
+-- ---- the record of a request
+pub request-says : (q : Request) → entryFor (recordFor q) ≡ Asks q
+unfolding entryFor
+request-says q = sym (chosen-first _ _ _ _ _ (request-lawful q) (ap Asks (sym (request-said q))))
 
 -- ---- the record at a place before the end
 module _ (bytes : List ℕ) (at : ℕ) (inside : at < length bytes) where

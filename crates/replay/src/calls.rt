@@ -5,12 +5,13 @@ ghost use Rattle.rules.specs.World.{worldOf};
 ghost use Rattle.rules.specs.declared.Request.the-variants.{Push, Pop, Replace};
 ghost use Rattle.rules.specs.declared.Asked.the-variants.{Traced};
 ghost use Rattle.rules.specs.Rules.{effectIn};
-ghost use Rattle.request.specs.declared.Decoded.the-variants.{Asks};
 ghost use Rattle.replay.specs.Costs.{workOf};
 ghost use Rattle.replay.specs.Packing.{stateAgain, runAgain, ranAgain};
 ghost use Rattle.replay.specs.Running.{runningOf, shownRan, ranAt, ranOn};
 ghost use Rattle.replay.specs.ByKind.{entryFor};
-use crate::cost::cost_of;
+use crate::cost::ONE;
+use crate::cost::push_cost;
+use crate::cost::replace_cost;
 use crate::flat::Fixed;
 use crate::flat::Moving;
 use crate::flat::Went;
@@ -31,7 +32,6 @@ use request::replace_in;
 use rules::Judgement;
 use rules::PushArgs;
 use rules::ReplaceArgs;
-use rules::Request;
 use rules::Room;
 use stack_calls::judge_pop;
 use stack_calls::judge_push;
@@ -56,19 +56,7 @@ pub(crate) fn push_turn(
     if !keeps_row(PUSH_ROW, r) {
         return refused_at(f, m, BAD_RECORD);
     }
-    run_push(f, m, words, cells, push_in(r))
-}
-
-pub(crate) fn run_push(
-    f: Fixed,
-    m: Moving,
-    words: &mut [u64],
-    cells: &mut [u64],
-    q: PushArgs,
-) -> Went
-    ensures { λ r. ⌜ shownRan (ranAgain f r) (now (words .exit)) (now (cells .exit))
-        ≡ ranOn (runningOf (runAgain f m) (now (words .entry)) (now (cells .entry))) (Asks (Push q)) ⌝ }
-{
+    let q = push_in(r);
     let s = state_again(f, m);
     match judge_push(s, words, cells, q) {
         Judgement::Refuse(why) => refused_for(f, m, why),
@@ -89,7 +77,7 @@ fn push_in_room(
         (effectIn (worldOf (stateAgain f m) (now (words .entry)) (now (cells .entry))) (Traced (Push q)) room) (1 + workOf (Push q)) ⌝ }
 {
     let spent = m.spent;
-    let cost = cost_of(Request::Push(q));
+    let cost = push_cost(q);
     if left_of(f.fuel, spent) < cost {
         return stopped_before(m, cost);
     }
@@ -108,23 +96,10 @@ pub(crate) fn pop_turn(f: Fixed, m: Moving, words: &mut [u64], cells: &mut [u64]
     if !keeps_row(POP_ROW, r) {
         return refused_at(f, m, BAD_RECORD);
     }
-    run_pop(f, m, words, cells, r.word3)
-}
-
-pub(crate) fn run_pop(
-    f: Fixed,
-    m: Moving,
-    words: &mut [u64],
-    cells: &mut [u64],
-    instance: u64,
-) -> Went
-    ensures { λ r. ⌜ shownRan (ranAgain f r) (now (words .exit)) (now (cells .exit))
-        ≡ ranOn (runningOf (runAgain f m) (now (words .entry)) (now (cells .entry))) (Asks (Pop instance)) ⌝ }
-{
     let s = state_again(f, m);
     match judge_pop(s, words, cells) {
         Judgement::Refuse(why) => refused_for(f, m, why),
-        Judgement::Accept(room) => pop_in_room(f, m, words, cells, instance, room),
+        Judgement::Accept(room) => pop_in_room(f, m, words, cells, r.word3, room),
     }
 }
 
@@ -141,7 +116,7 @@ fn pop_in_room(
         (effectIn (worldOf (stateAgain f m) (now (words .entry)) (now (cells .entry))) (Traced (Pop instance)) room) (1 + workOf (Pop instance)) ⌝ }
 {
     let spent = m.spent;
-    let cost = cost_of(Request::Pop(instance));
+    let cost = ONE;
     if left_of(f.fuel, spent) < cost {
         return stopped_before(m, cost);
     }
@@ -166,19 +141,7 @@ pub(crate) fn replace_turn(
     if !keeps_row(REPLACE_ROW, r) {
         return refused_at(f, m, BAD_RECORD);
     }
-    run_replace(f, m, words, cells, replace_in(r))
-}
-
-pub(crate) fn run_replace(
-    f: Fixed,
-    m: Moving,
-    words: &mut [u64],
-    cells: &mut [u64],
-    q: ReplaceArgs,
-) -> Went
-    ensures { λ r. ⌜ shownRan (ranAgain f r) (now (words .exit)) (now (cells .exit))
-        ≡ ranOn (runningOf (runAgain f m) (now (words .entry)) (now (cells .entry))) (Asks (Replace q)) ⌝ }
-{
+    let q = replace_in(r);
     let s = state_again(f, m);
     match judge_replace(s, words, cells, q) {
         Judgement::Refuse(why) => refused_for(f, m, why),
@@ -199,7 +162,7 @@ fn replace_in_room(
         (effectIn (worldOf (stateAgain f m) (now (words .entry)) (now (cells .entry))) (Traced (Replace q)) room) (1 + workOf (Replace q)) ⌝ }
 {
     let spent = m.spent;
-    let cost = cost_of(Request::Replace(q));
+    let cost = replace_cost(q);
     if left_of(f.fuel, spent) < cost {
         return stopped_before(m, cost);
     }

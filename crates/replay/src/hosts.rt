@@ -5,12 +5,12 @@ ghost use Rattle.rules.specs.World.{worldOf};
 ghost use Rattle.rules.specs.declared.Request.the-variants.{Host, ReturnHost};
 ghost use Rattle.rules.specs.declared.Asked.the-variants.{Traced};
 ghost use Rattle.rules.specs.Rules.{effectIn};
-ghost use Rattle.request.specs.declared.Decoded.the-variants.{Asks};
 ghost use Rattle.replay.specs.Costs.{workOf};
 ghost use Rattle.replay.specs.Packing.{stateAgain, runAgain, ranAgain};
 ghost use Rattle.replay.specs.Running.{runningOf, shownRan, ranAt, ranOn};
 ghost use Rattle.replay.specs.ByKind.{entryFor};
-use crate::cost::cost_of;
+use crate::cost::ONE;
+use crate::cost::return_host_cost;
 use crate::flat::Fixed;
 use crate::flat::Moving;
 use crate::flat::Went;
@@ -29,7 +29,6 @@ use request::host_in;
 use request::return_host_in;
 use rules::HostArgs;
 use rules::Judgement;
-use rules::Request;
 use rules::ReturnHostArgs;
 use rules::Room;
 use stack_hosts::judge_host;
@@ -53,19 +52,7 @@ pub(crate) fn host_turn(
     if !keeps_row(HOST_ROW, r) {
         return refused_at(f, m, BAD_RECORD);
     }
-    run_host(f, m, words, cells, host_in(r))
-}
-
-pub(crate) fn run_host(
-    f: Fixed,
-    m: Moving,
-    words: &mut [u64],
-    cells: &mut [u64],
-    q: HostArgs,
-) -> Went
-    ensures { λ r. ⌜ shownRan (ranAgain f r) (now (words .exit)) (now (cells .exit))
-        ≡ ranOn (runningOf (runAgain f m) (now (words .entry)) (now (cells .entry))) (Asks (Host q)) ⌝ }
-{
+    let q = host_in(r);
     let s = state_again(f, m);
     match judge_host(s, words, cells, q) {
         Judgement::Refuse(why) => refused_for(f, m, why),
@@ -86,7 +73,7 @@ fn host_in_room(
         (effectIn (worldOf (stateAgain f m) (now (words .entry)) (now (cells .entry))) (Traced (Host q)) room) (1 + workOf (Host q)) ⌝ }
 {
     let spent = m.spent;
-    let cost = cost_of(Request::Host(q));
+    let cost = ONE;
     if left_of(f.fuel, spent) < cost {
         return stopped_before(m, cost);
     }
@@ -111,19 +98,7 @@ pub(crate) fn return_host_turn(
     if !keeps_row(RETURN_HOST_ROW, r) {
         return refused_at(f, m, BAD_RECORD);
     }
-    run_return_host(f, m, words, cells, return_host_in(r))
-}
-
-pub(crate) fn run_return_host(
-    f: Fixed,
-    m: Moving,
-    words: &mut [u64],
-    cells: &mut [u64],
-    q: ReturnHostArgs,
-) -> Went
-    ensures { λ r. ⌜ shownRan (ranAgain f r) (now (words .exit)) (now (cells .exit))
-        ≡ ranOn (runningOf (runAgain f m) (now (words .entry)) (now (cells .entry))) (Asks (ReturnHost q)) ⌝ }
-{
+    let q = return_host_in(r);
     let s = state_again(f, m);
     match judge_return_host(s, words, cells, q) {
         Judgement::Refuse(why) => refused_for(f, m, why),
@@ -144,7 +119,7 @@ fn return_host_in_room(
         (effectIn (worldOf (stateAgain f m) (now (words .entry)) (now (cells .entry))) (Traced (ReturnHost q)) room) (1 + workOf (ReturnHost q)) ⌝ }
 {
     let spent = m.spent;
-    let cost = cost_of(Request::ReturnHost(q));
+    let cost = return_host_cost(q);
     if left_of(f.fuel, spent) < cost {
         return stopped_before(m, cost);
     }

@@ -1,11 +1,7 @@
 // A replay in its course, by value, and one record of it that was decoded before.
 ghost use mathlib.Core.Path.{_≡_};
-ghost use Rattle.request.specs.declared.Decoded.the-variants.{Asks};
 ghost use Rattle.replay.specs.Packing.{runAgain, ranAgain};
 ghost use Rattle.replay.specs.Running.{runningOf, startedRun, ranBy, shownRan, ranOn, ran};
-use crate::calls::run_pop;
-use crate::calls::run_push;
-use crate::calls::run_replace;
 use crate::flat::Fixed;
 use crate::flat::Moving;
 use crate::flat::Went;
@@ -13,17 +9,12 @@ use crate::flat::fixed_in;
 use crate::flat::moving_in;
 use crate::flat::ran_again;
 use crate::flat::refused_at;
-use crate::hosts::run_host;
-use crate::hosts::run_return_host;
-use crate::simple::run_reset;
-use crate::simple::run_restore;
-use crate::simple::run_set;
-use crate::simple::run_sync;
+use crate::turn::kind_turn;
 use given::Given;
 use given::is_given;
 use record::BAD_RECORD;
 use request::Decoded;
-use rules::Request;
+use request::record_of;
 use rules::State;
 
 // A replay in its course: the stack's state, the number of the next record, the fuel given and what is spent of it; and the cost of the record
@@ -78,29 +69,13 @@ pub(crate) fn nothing_ran(run: Run) -> Ran
     }
 }
 
+// A request goes by its record, so that there is one way through the kinds.
 fn run_entry(f: Fixed, m: Moving, words: &mut [u64], cells: &mut [u64], entry: Decoded) -> Went
     ensures { λ r. ⌜ shownRan (ranAgain f r) (now (words .exit)) (now (cells .exit))
         ≡ ranOn (runningOf (runAgain f m) (now (words .entry)) (now (cells .entry))) entry ⌝ }
 {
     match entry {
-        Decoded::Asks(q) => run_request(f, m, words, cells, q),
+        Decoded::Asks(q) => kind_turn(f, m, words, cells, record_of(q)),
         Decoded::Bad => refused_at(f, m, BAD_RECORD),
-    }
-}
-
-fn run_request(f: Fixed, m: Moving, words: &mut [u64], cells: &mut [u64], q: Request) -> Went
-    ensures { λ r. ⌜ shownRan (ranAgain f r) (now (words .exit)) (now (cells .exit))
-        ≡ ranOn (runningOf (runAgain f m) (now (words .entry)) (now (cells .entry))) (Asks q) ⌝ }
-{
-    match q {
-        Request::Push(args) => run_push(f, m, words, cells, args),
-        Request::Pop(instance) => run_pop(f, m, words, cells, instance),
-        Request::Replace(args) => run_replace(f, m, words, cells, args),
-        Request::Host(args) => run_host(f, m, words, cells, args),
-        Request::ReturnHost(args) => run_return_host(f, m, words, cells, args),
-        Request::Sync(ip) => run_sync(f, m, words, cells, ip),
-        Request::Restore => run_restore(f, m, words, cells),
-        Request::Reset => run_reset(f, m, words, cells),
-        Request::Set(head, cell) => run_set(f, m, words, cells, head, cell),
     }
 }

@@ -5,12 +5,11 @@ ghost use Rattle.rules.specs.World.{worldOf};
 ghost use Rattle.rules.specs.declared.Request.the-variants.{Sync, Restore, Reset, Set};
 ghost use Rattle.rules.specs.declared.Asked.the-variants.{Traced};
 ghost use Rattle.rules.specs.Rules.{effectIn};
-ghost use Rattle.request.specs.declared.Decoded.the-variants.{Asks};
 ghost use Rattle.replay.specs.Costs.{workOf};
 ghost use Rattle.replay.specs.Packing.{stateAgain, runAgain, ranAgain};
 ghost use Rattle.replay.specs.Running.{runningOf, shownRan, ranAt, ranOn};
 ghost use Rattle.replay.specs.ByKind.{entryFor};
-use crate::cost::cost_of;
+use crate::cost::ONE;
 use crate::flat::Fixed;
 use crate::flat::Moving;
 use crate::flat::Went;
@@ -28,7 +27,6 @@ use record::SET_ROW;
 use record::SYNC_ROW;
 use record::keeps_row;
 use rules::Judgement;
-use rules::Request;
 use rules::Room;
 use stack::judge_reset;
 use stack::judge_restore;
@@ -55,17 +53,10 @@ pub(crate) fn sync_turn(
     if !keeps_row(SYNC_ROW, r) {
         return refused_at(f, m, BAD_RECORD);
     }
-    run_sync(f, m, words, cells, r.word1)
-}
-
-pub(crate) fn run_sync(f: Fixed, m: Moving, words: &mut [u64], cells: &mut [u64], ip: u64) -> Went
-    ensures { λ r. ⌜ shownRan (ranAgain f r) (now (words .exit)) (now (cells .exit))
-        ≡ ranOn (runningOf (runAgain f m) (now (words .entry)) (now (cells .entry))) (Asks (Sync ip)) ⌝ }
-{
     let s = state_again(f, m);
     match judge_sync(s, words, cells) {
         Judgement::Refuse(why) => refused_for(f, m, why),
-        Judgement::Accept(room) => sync_in_room(f, m, words, cells, ip, room),
+        Judgement::Accept(room) => sync_in_room(f, m, words, cells, r.word1, room),
     }
 }
 
@@ -82,7 +73,7 @@ fn sync_in_room(
         (effectIn (worldOf (stateAgain f m) (now (words .entry)) (now (cells .entry))) (Traced (Sync ip)) room) (1 + workOf (Sync ip)) ⌝ }
 {
     let spent = m.spent;
-    let cost = cost_of(Request::Sync(ip));
+    let cost = ONE;
     if left_of(f.fuel, spent) < cost {
         return stopped_before(m, cost);
     }
@@ -107,13 +98,6 @@ pub(crate) fn restore_turn(
     if !keeps_row(RESTORE_ROW, r) {
         return refused_at(f, m, BAD_RECORD);
     }
-    run_restore(f, m, words, cells)
-}
-
-pub(crate) fn run_restore(f: Fixed, m: Moving, words: &mut [u64], cells: &mut [u64]) -> Went
-    ensures { λ r. ⌜ shownRan (ranAgain f r) (now (words .exit)) (now (cells .exit))
-        ≡ ranOn (runningOf (runAgain f m) (now (words .entry)) (now (cells .entry))) (Asks Restore) ⌝ }
-{
     let s = state_again(f, m);
     match judge_restore(s, words, cells) {
         Judgement::Refuse(why) => refused_for(f, m, why),
@@ -127,7 +111,7 @@ fn restore_in_room(f: Fixed, m: Moving, words: &mut [u64], cells: &mut [u64], ro
         (effectIn (worldOf (stateAgain f m) (now (words .entry)) (now (cells .entry))) (Traced Restore) room) (1 + workOf Restore) ⌝ }
 {
     let spent = m.spent;
-    let cost = cost_of(Request::Restore);
+    let cost = ONE;
     if left_of(f.fuel, spent) < cost {
         return stopped_before(m, cost);
     }
@@ -152,13 +136,6 @@ pub(crate) fn reset_turn(
     if !keeps_row(RESET_ROW, r) {
         return refused_at(f, m, BAD_RECORD);
     }
-    run_reset(f, m, words, cells)
-}
-
-pub(crate) fn run_reset(f: Fixed, m: Moving, words: &mut [u64], cells: &mut [u64]) -> Went
-    ensures { λ r. ⌜ shownRan (ranAgain f r) (now (words .exit)) (now (cells .exit))
-        ≡ ranOn (runningOf (runAgain f m) (now (words .entry)) (now (cells .entry))) (Asks Reset) ⌝ }
-{
     let s = state_again(f, m);
     match judge_reset(s, words, cells) {
         Judgement::Refuse(why) => refused_for(f, m, why),
@@ -172,7 +149,7 @@ fn reset_in_room(f: Fixed, m: Moving, words: &mut [u64], cells: &mut [u64], room
         (effectIn (worldOf (stateAgain f m) (now (words .entry)) (now (cells .entry))) (Traced Reset) room) (1 + workOf Reset) ⌝ }
 {
     let spent = m.spent;
-    let cost = cost_of(Request::Reset);
+    let cost = ONE;
     if left_of(f.fuel, spent) < cost {
         return stopped_before(m, cost);
     }
@@ -191,24 +168,10 @@ pub(crate) fn set_turn(f: Fixed, m: Moving, words: &mut [u64], cells: &mut [u64]
     if !keeps_row(SET_ROW, r) {
         return refused_at(f, m, BAD_RECORD);
     }
-    run_set(f, m, words, cells, r.head, r.word2)
-}
-
-pub(crate) fn run_set(
-    f: Fixed,
-    m: Moving,
-    words: &mut [u64],
-    cells: &mut [u64],
-    head: u16,
-    cell: u64,
-) -> Went
-    ensures { λ r. ⌜ shownRan (ranAgain f r) (now (words .exit)) (now (cells .exit))
-        ≡ ranOn (runningOf (runAgain f m) (now (words .entry)) (now (cells .entry))) (Asks (Set head cell)) ⌝ }
-{
     let s = state_again(f, m);
-    match judge_set(s, words, cells, head) {
+    match judge_set(s, words, cells, r.head) {
         Judgement::Refuse(why) => refused_for(f, m, why),
-        Judgement::Accept(room) => set_in_room(f, m, words, cells, head, cell, room),
+        Judgement::Accept(room) => set_in_room(f, m, words, cells, r.head, r.word2, room),
     }
 }
 
@@ -226,7 +189,7 @@ fn set_in_room(
         (effectIn (worldOf (stateAgain f m) (now (words .entry)) (now (cells .entry))) (Traced (Set head cell)) room) (1 + workOf (Set head cell)) ⌝ }
 {
     let spent = m.spent;
-    let cost = cost_of(Request::Set(head, cell));
+    let cost = ONE;
     if left_of(f.fuel, spent) < cost {
         return stopped_before(m, cost);
     }

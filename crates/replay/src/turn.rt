@@ -52,7 +52,13 @@ pub(crate) fn turn(
     }
 }
 
-fn kind_turn(f: Fixed, m: Moving, words: &mut [u64], cells: &mut [u64], r: Record) -> Went
+pub(crate) fn kind_turn(
+    f: Fixed,
+    m: Moving,
+    words: &mut [u64],
+    cells: &mut [u64],
+    r: Record,
+) -> Went
     ensures { λ x. ⌜ shownRan (ranAgain f x) (now (words .exit)) (now (cells .exit))
         ≡ ranOn (runningOf (runAgain f m) (now (words .entry)) (now (cells .entry))) (entryFor r) ⌝ }
 {

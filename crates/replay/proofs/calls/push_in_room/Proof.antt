@@ -9,18 +9,16 @@ use Rattle.replay.proofs.calls.push_in_room.Tie as tie
 returns : tie.Need-returns
 returns c =
     let a = c .before .before .before .before .before .before .args in
-    let cost = c .before .before .before .cost-of in
-    arm-stops (a .f) (a .m) _ _ (Push (a .q)) (a .room) _ (cost .ensures) _ (c .stopped-before .ensures) (omega arith)
+    arm-stops (a .f) (a .m) _ _ (Push (a .q)) (a .room) _ (c .before .before .before .push-cost .ensures) _ (c .stopped-before .ensures) (omega arith)
 
 returns-2 : tie.Need-returns-2
 returns-2 c =
     let a = c .before .before .before .before .before .before .before .before .before .before .before .before .before .before .args in
-    let cost = c .before .before .before .before .before .before .before .before .before .before .before .cost-of in
     let step = c .before .before .before .before .before .step-push in
     let again = c .before .before .before .before .before .before .before .before .state-again in
     let left = c .before .before .before .before .before .before .before .before .before .before .left-of .ensures in
     let enough = c .before .before .before .before .before .before .before .before .before .if1 .left in
-    arm-goes (a .f) (a .m) _ _ (Push (a .q)) (a .room) _ (cost .ensures) _ (again .ensures) (step .result) _ _ (step .ensures)
+    arm-goes (a .f) (a .m) _ _ (Push (a .q)) (a .room) _ (c .before .before .before .before .before .before .before .before .before .before .before .push-cost .ensures) _ (again .ensures) (step .result) _ _ (step .ensures)
     _ (c .went-by .ensures) (omega (arith, left, enough))
 
 pub push-in-room-spec : {M : Type 1} → statement M

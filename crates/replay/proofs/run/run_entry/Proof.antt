@@ -1,13 +1,18 @@
--- `replay::run::run_entry` meets its contract: a request, or a record that reads badly. Assumes nothing.
+-- `replay::run::run_entry` meets its contract: a request by its record, or a record that reads badly. Assumes nothing.
 use mathlib.Core.Path.{sym, ap, _∙_}
 use borrow.Author.Needs.{needs}
 use Rattle.replay.specs.Running.{ranOn}
+use Rattle.replay.specs.ByKind.{entryFor}
 use Rattle.replay.proofs.Arms.{arm-bad}
+use Rattle.replay.proofs.ByKind.{request-says}
 use Rattle.replay.proofs.run.run_entry.Statement.{statement}
 use Rattle.replay.proofs.run.run_entry.Tie as tie
 
 returns : tie.Need-returns
-returns c = c .before .before .before .before .run-request .ensures ∙ ap (ranOn _) (sym (c .before .before .before .before .before .before .before .before .entry .given .1))
+returns c =
+    let turned = c .before .before .before .before in
+    turned .kind-turn .ensures
+    ∙ ap (ranOn _) (ap entryFor (turned .before .record-of .ensures) ∙ request-says _ ∙ sym (c .before .before .before .before .before .before .before .before .before .entry .given .1))
 
 returns-2 : tie.Need-returns-2
 returns-2 c =
@@ -19,6 +24,7 @@ run-entry-spec =
     tie.close
     (tie.spec
     (λ c. search needs)
+    (λ c κs. search needs)
     (λ c κs. search needs)
     (λ c. search needs)
     (λ c κs. search needs)

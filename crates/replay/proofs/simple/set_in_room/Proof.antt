@@ -1,4 +1,5 @@
 -- `replay::simple::set_in_room` meets its contract: it stops before anything is written, or goes on with the step done. Assumes nothing.
+use mathlib.Core.Path.{refl}
 use native.Mathlib.Omega.{arith}
 use borrow.Author.Needs.{needs}
 use Rattle.rules.specs.declared.Request.the-variants.{Set}
@@ -8,26 +9,23 @@ use Rattle.replay.proofs.simple.set_in_room.Tie as tie
 
 returns : tie.Need-returns
 returns c =
-    let a = c .before .before .before .before .before .before .args in
-    let cost = c .before .before .before .cost-of in
-    arm-stops (a .f) (a .m) _ _ (Set (a .head) (a .cell)) (a .room) _ (cost .ensures) _ (c .stopped-before .ensures) (omega arith)
+    let a = c .before .before .before .before .before .args in
+    arm-stops (a .f) (a .m) _ _ (Set (a .head) (a .cell)) (a .room) 1 refl _ (c .stopped-before .ensures) (omega arith)
 
 returns-2 : tie.Need-returns-2
 returns-2 c =
-    let a = c .before .before .before .before .before .before .before .before .before .before .before .before .args in
-    let cost = c .before .before .before .before .before .before .before .before .before .cost-of in
+    let a = c .before .before .before .before .before .before .before .before .before .before .before .args in
     let step = c .before .before .before .step-set in
     let again = c .before .before .before .before .before .before .state-again in
     let left = c .before .before .before .before .before .before .before .before .left-of .ensures in
     let enough = c .before .before .before .before .before .before .before .if1 .left in
-    arm-goes (a .f) (a .m) _ _ (Set (a .head) (a .cell)) (a .room) _ (cost .ensures) _ (again .ensures) (step .result) _ _ (step .ensures)
+    arm-goes (a .f) (a .m) _ _ (Set (a .head) (a .cell)) (a .room) 1 refl _ (again .ensures) (step .result) _ _ (step .ensures)
     _ (c .went-by .ensures) (omega (arith, left, enough))
 
 pub set-in-room-spec : {M : Type 1} → statement M
 set-in-room-spec =
     tie.close
     (tie.spec
-    (λ c κs. search needs)
     (λ c κs. search needs)
     (λ c κs. search needs)
     returns

@@ -1,9 +1,12 @@
--- `replay::simple::sync_turn` meets its contract: the record breaks its kind's row, or says its request. Assumes nothing.
+-- `replay::simple::sync_turn` meets its contract: the record breaks its kind's row, or says its request, which is refused or accepted. Assumes nothing.
 use mathlib.Core.Path.{_≡_, ap, _∙_}
 use borrow.Author.Needs.{needs}
 use borrow.Author.Tests.{not-true, not-false}
+use Rattle.rules.specs.declared.Request.the-variants.{Sync}
+use Rattle.request.specs.declared.Decoded.the-variants.{Asks}
 use Rattle.replay.specs.Running.{ranOn}
-use Rattle.replay.proofs.Arms.{arm-bad}
+use Rattle.replay.specs.ByKind.{entryFor}
+use Rattle.replay.proofs.Arms.{arm-bad, arm-refused, arm-accepted}
 use Rattle.replay.proofs.ByKind.{broken-says, kept-says, says-sync}
 use Rattle.replay.proofs.simple.sync_turn.Statement.{statement}
 use Rattle.replay.proofs.simple.sync_turn.Tie as tie
@@ -14,12 +17,25 @@ returns c =
     let kind : a .r .kind ≡ 6 = search needs in
     arm-bad (a .f) (a .m) _ _ _ (c .refused-at .ensures) ∙ ap (ranOn _) (broken-says (a .r) 6 kind _ (c .before .before .keeps-row .ensures) (not-true _ (c .before .if1 .taken)))
 
+-- the request that was judged is the record's
+said : (c : tie.After-judge-sync) → Asks (Sync (c .before .before .before .before .before .before .before .before .args .r .word1)) ≡ entryFor (c .before .before .before .before .before .before .before .before .args .r)
+said c =
+    let r = c .before .before .before .before .before .before .before .before .args .r in
+    let kind : r .kind ≡ 6 = search needs in
+    kept-says r 6 kind _ (c .before .before .before .before .before .keeps-row .ensures) (not-false _ (c .before .before .before .before .if1 .left)) _ (says-sync r kind)
+
 returns-2 : tie.Need-returns-2
 returns-2 c =
-    let r = c .before .before .before .before .before .before .before .before .before .before .before .args .r in
-    let kind : r .kind ≡ 6 = search needs in
-    c .before .before .before .before .run-sync .ensures
-    ∙ ap (ranOn _) (kept-says r 6 kind _ (c .before .before .before .before .before .before .before .before .keeps-row .ensures) (not-false _ (c .before .before .before .before .before .before .before .if1 .left)) _ (says-sync r kind))
+    let a = c .before .before .before .before .before .before .before .before .before .before .before .before .args in
+    arm-refused (a .f) (a .m) _ _ (Sync (c .before .before .before .before .before .before .before .before .before .before .before .before .args .r .word1)) _ (c .before .before .before .before .before .before .before .state-again .ensures) _ (c .before .before .before .before .judge-sync .ensures) _ (c .before .before .why .given .1) _ (c .refused-for .ensures)
+    ∙ ap (ranOn _) (said (c .before .before .before .before))
+
+returns-3 : tie.Need-returns-3
+returns-3 c =
+    let a = c .before .before .before .before .before .before .before .before .before .before .before .before .before .before .before .before .before .before .args in
+    c .before .before .before .before .sync-in-room .ensures
+    ∙ arm-accepted (a .f) (a .m) _ _ (Sync (c .before .before .before .before .before .before .before .before .before .before .before .before .before .before .before .before .before .before .args .r .word1)) _ (c .before .before .before .before .before .before .before .before .before .before .before .before .before .state-again .ensures) _ (c .before .before .before .before .before .before .before .before .before .before .judge-sync .ensures) _ (c .before .before .before .before .before .before .before .before .room .given .1)
+    ∙ ap (ranOn _) (said (c .before .before .before .before .before .before .before .before .before .before))
 
 pub sync-turn-spec : {M : Type 1} → statement M
 sync-turn-spec =
@@ -29,6 +45,14 @@ sync-turn-spec =
     (λ c κs. search needs)
     returns
     (λ c κs. search needs)
+    (λ c κs. search needs)
+    (λ c. search needs)
+    (λ c κs. search needs)
+    (λ c. search needs)
+    (λ c κs. search needs)
     (λ c. search needs)
     (λ c. search needs)
-    returns-2)
+    returns-2
+    (λ c. search needs)
+    (λ c. search needs)
+    returns-3)

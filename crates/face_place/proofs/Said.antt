@@ -99,7 +99,7 @@ module _ (st words cells : List ℕ) (regs : Registers) (long : 8 ≤ length st)
 
   module _ {A : Type 0} (tell : Shown → A) (show : A → Shown) (zeros : (n : ℕ) → 2 ≤ n → show (tell (shownOf n noValues)) ≡ shownOf n noValues) (a : Asked)
       (shows : show (tell (effectOf held a .shown)) ≡ effectOf there a .shown)
-      (same : effectOf there a .world ≡ worldOf (stateWith (effectOf held a .world .state) regs) (effectOf held a .world .words) (effectOf held a .world .cells))
+      (same : let u = effectOf held a .world in effectOf there a .world ≡ worldOf (stateWith (u .state) regs) (u .words) (u .cells))
     where
       abbrev step : After
       step = effectOf held a

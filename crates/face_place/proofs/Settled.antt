@@ -13,6 +13,7 @@ use Rattle.face_place.proofs.calls.cattlecleat_pop_frame.Reads as pops
 use Rattle.face_place.proofs.calls.cattlecleat_replace_frame.Reads as replaces
 use Rattle.face_place.proofs.hosts.cattlecleat_prepare_host_frame.Reads as prepares
 use Rattle.face_place.proofs.hosts.cattlecleat_return_prepare_host_frame.Reads as returns
+use Rattle.face_place.proofs.hosts.cattlecleat_host_part_in_place.Reads as part
 use Rattle.face_place.proofs.syncs.cattlecleat_sync_ip.Reads as syncs-ip
 use Rattle.face_place.proofs.syncs.cattlecleat_restore_frame.Reads as restores
 use Rattle.face_place.proofs.syncs.cattlecleat_set.Reads as sets-cell
@@ -37,6 +38,9 @@ cattlecleat-prepare-host-frame-settled κ a r r′ e e′ p q =
 pub cattlecleat-return-prepare-host-frame-settled : OnceSeen returns.Post (λ κ r e. beside r (beside (now (e .0)) (now (e .1 .1 .0))))
 cattlecleat-return-prepare-host-frame-settled κ a r r′ e e′ p q =
     ap (λ (t : Placed CReturned). beside (t .told) (beside (t .state) (t .cells))) (p ∙ sym q)
+
+pub cattlecleat-host-part-in-place-settled : Once part.Post
+cattlecleat-host-part-in-place-settled κ a r r′ e e′ p q = p ∙ sym q
 
 pub cattlecleat-sync-ip-settled : OnceSeen syncs-ip.Post (λ κ r e. beside r (now (e .1 .0)))
 cattlecleat-sync-ip-settled κ a r r′ e e′ p q = ap (λ (t : Placed COffset). beside (t .told) (t .words)) (p ∙ sym q)

@@ -2,16 +2,19 @@
 -- be missing before it.
 --     countIn word place      the count at place 1, 2 or 3 of a word; the one at place 0 is its low bits
 --     pushHeld, replaceHeld, hostHeld, returnHostHeld         what the words of each request ask for
+--     hostFrameHeld           the host's frame that three words say: its counts are in the last
 use mathlib.Core.List.{List}
 use Prim.Native.Nat.{ℕ, _/_, _^_}
 use lib.ListN.{getD}
 use mir.Syntax.{w16}
+use Rattle.cells.specs.declared.host.HostFrame.{HostFrame}
 use Rattle.given.specs.Given.{givenIf}
 use Rattle.regs.specs.Convert.{lowBits, truthOf}
 use Rattle.rules.specs.declared.PushArgs.{PushArgs}
 use Rattle.rules.specs.declared.ReplaceArgs.{ReplaceArgs}
 use Rattle.rules.specs.declared.HostArgs.{HostArgs}
 use Rattle.rules.specs.declared.ReturnHostArgs.{ReturnHostArgs}
+use Rattle.rules.specs.Answers.{hostOf}
 
 abbrev pub countIn : (word place : ℕ) → ℕ
 countIn word place = lowBits w16 (word / 65536 ^ place)
@@ -52,3 +55,6 @@ returnHostHeld q = record {
   results = countIn (getD q 0 0) 2;
   instance = getD q 1 0;
 }
+
+abbrev pub hostFrameHeld : List ℕ → HostFrame
+hostFrameHeld f = hostOf (getD f 0 0) (getD f 1 0) (lowBits w16 (getD f 2 0)) (countIn (getD f 2 0) 1)

@@ -15,6 +15,7 @@ pub use answers::CReturned;
 pub use calls::cattlecleat_pop_frame;
 pub use calls::cattlecleat_push_frame;
 pub use calls::cattlecleat_replace_frame;
+pub use hosts::cattlecleat_host_part_in_place;
 pub use hosts::cattlecleat_prepare_host_frame;
 pub use hosts::cattlecleat_return_prepare_host_frame;
 pub use syncs::cattlecleat_reset;

@@ -1,7 +1,11 @@
 // Arguments as they lie: up to four counts of 16 bits in the first word, the lowest first, then a word for each number, with the flag of one that may be
 // missing before it.
 ghost use mathlib.Core.Path.{_≡_};
-ghost use Rattle.face_place.specs.Args.{pushHeld, replaceHeld, hostHeld, returnHostHeld};
+ghost use mir.Syntax.{w16};
+ghost use Rattle.regs.specs.Convert.{lowBits};
+ghost use Rattle.rules.specs.Answers.{hostOf};
+ghost use Rattle.face_place.specs.Args.{countIn, pushHeld, replaceHeld, hostHeld, returnHostHeld, hostFrameHeld};
+use cells::HostFrame;
 use given::given_if;
 use regs::to_bool;
 use regs::to_u16;
@@ -67,5 +71,23 @@ pub(crate) fn return_host_held(q: &[u64; 2]) -> ReturnHostArgs
         params: to_u16(counts / SECOND),
         results: to_u16(counts / THIRD),
         instance: q[1],
+    }
+}
+
+// A host's frame has its counts in the last word.
+pub(crate) fn host_frame_held(frame: &[u64; 3]) -> HostFrame
+    ensures { λ r. ⌜ r ≡ hostFrameHeld (now (frame .entry)) ⌝ }
+{
+    frame_of(frame[0], frame[1], frame[2])
+}
+
+fn frame_of(start: u64, end: u64, counts: u64) -> HostFrame
+    ensures { λ r. ⌜ r ≡ hostOf start end (lowBits w16 counts) (countIn counts 1) ⌝ }
+{
+    HostFrame {
+        start: start as usize,
+        end: end as usize,
+        params: to_u16(counts),
+        results: to_u16(counts / SECOND),
     }
 }

@@ -21,4 +21,5 @@ cattlecleat-pop-frame-spec =
     let start = reading .before .before .before .before in
     let args = start .args in
     is-placed frameTold movedAfter (now (args .state)) (now (args .words)) (now (args .cells)) _ (reading .state-held .ensures) _ _
-    refl _ (called .pop-frame .ensures) _ (c .frame-told .ensures) _ (c .before .move-state .ensures)))
+    refl _ (called .pop-frame .ensures)
+    _ (c .frame-told .ensures) _ (c .before .move-state .ensures)))

@@ -27,4 +27,5 @@ cattlecleat-push-frame-spec =
     let start = reading .before .before .before .before in
     let args = start .args in
     is-placed offsetTold movedAfter (now (args .state)) (now (args .words)) (now (args .cells)) _ (reading .state-held .ensures) _ _
-    (ap (λ q. Traced (Push q)) (asked .push-held .ensures)) _ (called .push-frame .ensures) _ (c .offset-told .ensures) _ (c .before .move-state .ensures)))
+    (ap (λ q. Traced (Push q)) (asked .push-held .ensures)) _ (called .push-frame .ensures)
+    _ (c .offset-told .ensures) _ (c .before .move-state .ensures)))

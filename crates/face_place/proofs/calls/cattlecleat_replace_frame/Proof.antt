@@ -27,4 +27,5 @@ cattlecleat-replace-frame-spec =
     let start = reading .before .before .before .before in
     let args = start .args in
     is-placed offsetTold movedAfter (now (args .state)) (now (args .words)) (now (args .cells)) _ (reading .state-held .ensures) _ _
-    (ap (λ q. Traced (Replace q)) (asked .replace-held .ensures)) _ (called .replace-frame .ensures) _ (c .offset-told .ensures) _ (c .before .move-state .ensures)))
+    (ap (λ q. Traced (Replace q)) (asked .replace-held .ensures)) _ (called .replace-frame .ensures)
+    _ (c .offset-told .ensures) _ (c .before .move-state .ensures)))

@@ -27,4 +27,5 @@ cattlecleat-prepare-host-frame-spec =
     let start = reading .before .before .before .before in
     let args = start .args in
     is-placed hostedTold lenAfter (now (args .state)) (now (args .words)) (now (args .cells)) _ (reading .state-held .ensures) _ _
-    (ap (λ q. Traced (Host q)) (asked .host-held .ensures)) _ (called .prepare-host-frame .ensures) _ (c .hosted-told .ensures) _ (c .before .move-len .ensures)))
+    (ap (λ q. Traced (Host q)) (asked .host-held .ensures)) _ (called .prepare-host-frame .ensures)
+    _ (c .hosted-told .ensures) _ (c .before .move-len .ensures)))

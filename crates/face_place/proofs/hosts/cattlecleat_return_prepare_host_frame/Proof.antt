@@ -26,4 +26,5 @@ cattlecleat-return-prepare-host-frame-spec =
     let start = reading .before .before .before .before in
     let args = start .args in
     is-placed returnedTold movedAfter (now (args .state)) (now (args .words)) (now (args .cells)) _ (reading .state-held .ensures) _ _
-    (ap (λ q. Traced (ReturnHost q)) (asked .return-host-held .ensures)) _ (called .return-prepare-host-frame .ensures) _ (c .returned-told .ensures) _ (c .before .move-state .ensures)))
+    (ap (λ q. Traced (ReturnHost q)) (asked .return-host-held .ensures)) _ (called .return-prepare-host-frame .ensures)
+    _ (c .returned-told .ensures) _ (c .before .move-state .ensures)))

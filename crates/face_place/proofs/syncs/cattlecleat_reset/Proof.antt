@@ -21,4 +21,5 @@ cattlecleat-reset-spec =
     let start = reading .before .before .before .before in
     let args = start .args in
     is-placed numberTold emptiedAfter (now (args .state)) (now (args .words)) (now (args .cells)) _ (reading .whole-held .ensures) _ _
-    refl _ (called .reset .ensures) _ (c .answer-number .ensures) _ (c .before .empty-state .ensures)))
+    refl _ (called .reset .ensures)
+    _ (c .answer-number .ensures) _ (c .before .empty-state .ensures)))

@@ -20,4 +20,5 @@ cattlecleat-restore-frame-spec =
     let start = reading .before .before .before in
     let args = start .args in
     is-placed frameTold sameAfter (now (args .state)) (now (args .words)) (now (args .cells)) _ (reading .state-held .ensures) _ _
-    refl _ (called .restore-frame .ensures) _ (c .frame-told .ensures) _ refl))
+    refl _ (called .restore-frame .ensures)
+    _ (c .frame-told .ensures) _ refl))

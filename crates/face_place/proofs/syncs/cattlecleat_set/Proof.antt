@@ -21,4 +21,5 @@ cattlecleat-set-spec =
     let start = reading .before .before .before in
     let args = start .args in
     is-placed offsetTold sameAfter (now (args .state)) (now (args .words)) (now (args .cells)) _ (reading .state-held .ensures) _ _
-    refl _ (called .set .ensures) _ (c .offset-told .ensures) _ refl))
+    refl _ (called .set .ensures)
+    _ (c .offset-told .ensures) _ refl))

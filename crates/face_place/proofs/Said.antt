@@ -1,6 +1,8 @@
 -- What is handed out and left in place says document 01's answer, whatever registers lie behind the state. Assumes nothing.
 --     placed-said     of every request that leaves the registers alone
 --     whole-said      of a reset and of a register sync
+--     left-refused    on a refusal the words are as they came
+--     parts-said      a host's part is told alike whatever registers lie there
 use mathlib.Core.Path.{_≡_, refl, sym, ap, subst, _∙_}
 use mathlib.Core.List.{List}
 use Prim.Native.Nat.{ℕ, _≤_, _<_}
@@ -33,15 +35,17 @@ use Rattle.rules.specs.Syncs.{topRoom, syncTests, synced, restoreTests, restore
 use Rattle.rules.specs.Syncs.{setTests, setRoom, cellSet, registerTests, registersStored}
 use Rattle.rules.specs.Rules.{testsOf, effectOf, answered}
 use Rattle.rules.proofs.Verdicts.{AskedVerdict, accepted, refused, asked-verdict, accepted-then, done-then}
+use Rattle.face.specs.Parts.{partTold}
 use Rattle.face_place.specs.Held.{stateHeld, registersHeld, movedPut, lenPut, registersLaid, emptiedPut, unlessRefused}
 use Rattle.face_place.specs.Placed.{numberTold, offsetTold, frameTold, hostedTold, returnedTold, worldHeld, answeredIn}
 use Rattle.face_place.specs.Placed.{sameAfter, movedAfter, lenAfter, storedAfter, emptiedAfter}
-use Rattle.face_place.specs.Said.{numberShown, offsetShown, frameShown, restoredShown, hostedShown, returnedShown, SaidBy, PlacedSaid, WholeBy, WholeSaid}
+use Rattle.face_place.specs.Said.{numberShown, offsetShown, frameShown, restoredShown, hostedShown, returnedShown, SaidBy, PlacedSaid}
+use Rattle.face_place.specs.Said.{WholeBy, WholeSaid, PartsSaid}
 use Rattle.face_place.proofs.Held.{moved-held, len-held, emptied-held, laid-held}
 
 -- ---- the words of the state after an answer, by its number
 module _ (n : ℕ) (st st′ : List ℕ) where
-  left-refused : 2 ≤ n → unlessRefused n st st′ ≡ st
+  pub left-refused : 2 ≤ n → unlessRefused n st st′ ≡ st
   unfolding unlessRefused choose
   left-refused two = rw (le-leb 2 n two)
 
@@ -224,3 +228,8 @@ registers-said ws st words cells long =
 
 pub whole-said : WholeSaid
 whole-said = (reset-said, registers-said)
+
+-- ---- a host's part
+pub parts-said : PartsSaid
+unfolding brokenState partTests partTold
+parts-said st words cells regs frame = refl

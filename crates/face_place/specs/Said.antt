@@ -2,7 +2,8 @@
 --     numberShown, offsetShown, frameShown, hostedShown, returnedShown     what is shown by the numbers handed out: what they leave out is 0
 --     restoredShown               so of a restore, of which the registers are those behind the state, zeros where it is refused
 --     SaidBy tell show left a     what is handed out and left of a request says what is answered to it
--- Statements: PlacedSaid, so of every request that leaves the registers alone; WholeSaid, so of a reset and of a register sync, with the registers in words.
+-- Statements: PlacedSaid, so of every request that leaves the registers alone; WholeSaid, so of a reset and of a register sync, with the registers in words;
+-- PartsSaid, a host's part is told alike whatever registers lie there.
 use mathlib.Core.Path.{_≡_}
 use mathlib.Core.List.{List}
 use Prim.Native.Nat.{ℕ, _≤_}
@@ -22,6 +23,7 @@ use Rattle.rules.specs.declared.Asked.{Asked}
 use Rattle.rules.specs.declared.Asked.the-variants.{Traced, SyncRegs}
 use Rattle.rules.specs.Answers.{noHost, hostValues, offsetValues, noValues, Shown, shownOf, After, afterOf}
 use Rattle.rules.specs.Rules.{answered}
+use Rattle.face.specs.Parts.{partTold}
 use Rattle.face_place.specs.declared.answers.COffset.{COffset}
 use Rattle.face_place.specs.declared.answers.CFrame.{CFrame}
 use Rattle.face_place.specs.declared.answers.CHosted.{CHosted}
@@ -83,3 +85,8 @@ WholeBy left a =
 
 abbrev pub WholeSaid : Type 0
 WholeSaid = WholeBy emptiedAfter (Traced Reset) × ((ws : List ℕ) → WholeBy (storedAfter ws) (SyncRegs (registersHeld ws 0)))
+
+abbrev pub PartsSaid : Type 0
+PartsSaid =
+    (st words cells : List ℕ) (regs : Registers) (frame : HostFrame)
+    → partTold (worldHeld st zeroRegisters words cells) frame ≡ partTold (worldHeld st regs words cells) frame

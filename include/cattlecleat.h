@@ -10,10 +10,11 @@
  *   - two buffers of one call do not overlap.
  * Every state, request, number, byte and content of a buffer gets an answer. Nothing is kept between calls, and no memory is allocated.
  *
- * The state goes in by value and comes back with the answer. Frames lie in `words`, CATTLECLEAT_FRAME_WORDS words per frame, oldest first:
- * ip, start, debt flag (0 or 1) and debt instance. In a struct, a flag of 0 reads as none whatever the number beside it, any other as
- * given. A refusal hands state and slot back number for number as they came, and a replay hands back as it came whatever the trace left as
- * it was; else a flag that comes back is 0 or 1, and a 0 stands beside a 0.
+ * The state goes in by value and comes back with the answer, or it is lent and stays where it is: each request has a function of both
+ * sorts, and the second is several times as fast. Frames lie in `words`, CATTLECLEAT_FRAME_WORDS words per frame, oldest first: ip, start,
+ * debt flag (0 or 1) and debt instance. In a struct, a flag of 0 reads as none whatever the number beside it, any other as given. A refusal
+ * hands state and slot back number for number as they came, and a replay hands back as it came whatever the trace left as it was; else a
+ * flag that comes back is 0 or 1, and a 0 stands beside a 0.
  *
  * Answer numbers. On 2 and above the state, the done slot and all buffers are unchanged, and every other number handed back is 0.
  *    0  done
@@ -148,6 +149,71 @@ typedef struct cattlecleat_part {
     size_t results; /* cells for results: all from host start to end */
 } cattlecleat_part;
 
+/* What the requests in place are given: as in cattlecleat_request. */
+typedef struct cattlecleat_push {
+    uint16_t head;
+    uint16_t params;
+    uint16_t locals;
+    uint16_t slots;
+    uint64_t caller_flag;
+    uint64_t caller;
+    uint64_t callee;
+    uint64_t instance_flag;
+    uint64_t instance;
+} cattlecleat_push;
+
+typedef struct cattlecleat_replace {
+    uint16_t head;
+    uint16_t params;
+    uint16_t locals;
+    uint16_t slots;
+    uint64_t callee;
+    uint64_t instance_flag;
+    uint64_t instance;
+} cattlecleat_replace;
+
+typedef struct cattlecleat_host {
+    uint16_t head;
+    uint16_t params;
+    uint16_t results;
+    uint64_t caller_flag;
+    uint64_t caller;
+} cattlecleat_host;
+
+typedef struct cattlecleat_return_host {
+    uint16_t head;
+    uint16_t params;
+    uint16_t results;
+    uint64_t instance;
+} cattlecleat_return_host;
+
+/* What they answer: a number, and of what requests hand back what this one does; 0 with a refusal. */
+typedef struct cattlecleat_offset {
+    uint64_t number;
+    size_t offset;
+} cattlecleat_offset;
+
+typedef struct cattlecleat_frame {
+    uint64_t number;
+    size_t offset; /* the start of the frame to go on in */
+    uint64_t ip;
+    uint64_t instance;
+} cattlecleat_frame;
+
+typedef struct cattlecleat_hosted {
+    uint64_t number;
+    size_t offset;
+    cattlecleat_host_frame host;
+} cattlecleat_hosted;
+
+typedef struct cattlecleat_returned {
+    uint64_t number;
+    size_t offset;
+    uint64_t ip;
+    uint64_t instance;
+    cattlecleat_host_frame host;
+} cattlecleat_returned;
+
 /* A replay in its course. To begin one: an opened state, the fuel, and 0 for the rest. */
 typedef struct cattlecleat_run {
     cattlecleat_state state;
@@ -223,6 +289,51 @@ void cattlecleat_zero_registers(cattlecleat_registers *r);
  * take its results. A frame with both counts 0 gets the empty part. Answers 0; 9, 11. */
 cattlecleat_part cattlecleat_host_part(cattlecleat_state s, const uint64_t *words, size_t words_len, const uint64_t *cells,
                                        size_t cells_len, cattlecleat_host_frame frame);
+
+/* The same requests with the state in place, what they are given behind a pointer, and small answers. Each answers the numbers that
+ * cattlecleat_ask answers, with the same refusals in the same order, and leaves words, cells and a state that say the same. Of the state it
+ * writes only what it moves, and a refusal nothing: an accepted push, pop, replace or return-host writes `count`, `len` and, where there is
+ * a current instance, a `current_flag` of 1 and `current`; a host writes `len`. To the others but reset and register sync it is const.
+ * What lies between the members of a struct may be anything, and is anything afterwards. */
+
+/* Push, and replace. */
+cattlecleat_offset cattlecleat_push_frame(cattlecleat_state *s, uint64_t *words, size_t words_len, uint64_t *cells, size_t cells_len,
+                                          const cattlecleat_push *q);
+cattlecleat_offset cattlecleat_replace_frame(cattlecleat_state *s, uint64_t *words, size_t words_len, uint64_t *cells, size_t cells_len,
+                                             const cattlecleat_replace *q);
+
+/* Pop, giving an instance. */
+cattlecleat_frame cattlecleat_pop_frame(cattlecleat_state *s, const uint64_t *words, size_t words_len, const uint64_t *cells,
+                                        size_t cells_len, uint64_t instance);
+
+/* Host, and return-host. */
+cattlecleat_hosted cattlecleat_prepare_host_frame(cattlecleat_state *s, uint64_t *words, size_t words_len, uint64_t *cells,
+                                                  size_t cells_len, const cattlecleat_host *q);
+cattlecleat_returned cattlecleat_return_prepare_host_frame(cattlecleat_state *s, const uint64_t *words, size_t words_len, uint64_t *cells,
+                                                           size_t cells_len, const cattlecleat_return_host *q);
+
+/* Sync, giving an ip. */
+cattlecleat_offset cattlecleat_sync_ip(const cattlecleat_state *s, uint64_t *words, size_t words_len, const uint64_t *cells,
+                                       size_t cells_len, uint64_t ip);
+
+/* Restore: the registers are in the state. */
+cattlecleat_frame cattlecleat_restore_frame(const cattlecleat_state *s, const uint64_t *words, size_t words_len, const uint64_t *cells,
+                                            size_t cells_len);
+
+/* Set, giving a head and a cell. */
+cattlecleat_offset cattlecleat_set(const cattlecleat_state *s, const uint64_t *words, size_t words_len, uint64_t *cells, size_t cells_len,
+                                   uint16_t head, uint64_t cell);
+
+/* Reset: `count`, `len`, `current_flag`, `current` and every bit of the registers are 0. Hands back the number. */
+uint64_t cattlecleat_reset(cattlecleat_state *s, const uint64_t *words, size_t words_len, const uint64_t *cells, size_t cells_len);
+
+/* Register sync: the registers of the state are those given, bit for bit. Hands back the number. */
+uint64_t cattlecleat_sync_registers_in_place(cattlecleat_state *s, const uint64_t *words, size_t words_len, const uint64_t *cells,
+                                             size_t cells_len, const cattlecleat_registers *regs);
+
+/* The host part, as by cattlecleat_host_part. */
+cattlecleat_part cattlecleat_host_part_in_place(const cattlecleat_state *s, const uint64_t *words, size_t words_len, const uint64_t *cells,
+                                                size_t cells_len, const cattlecleat_host_frame *frame);
 
 /* Replays the records of a trace one after another, and stops before a record whose cost exceeds the fuel left. Each record is answered as
  * by cattlecleat_ask, or with 10 where it breaks the rules; a tail of 1 to 39 bytes is such a record. It costs 1, plus cells zeroed or

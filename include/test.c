@@ -96,6 +96,9 @@ static void check_sizes(void) {
     CHECK(sizeof(cattlecleat_request) == 64 && sizeof(cattlecleat_answer) == 168 && sizeof(cattlecleat_part) == 32);
     CHECK(sizeof(cattlecleat_run) == 128 && sizeof(cattlecleat_read) == 72 && sizeof(cattlecleat_aligned) == 16);
     CHECK(sizeof(cattlecleat_reason) == 16 && sizeof(cattlecleat_done) == 40);
+    CHECK(sizeof(cattlecleat_push) == 48 && sizeof(cattlecleat_replace) == 32 && sizeof(cattlecleat_host) == 24);
+    CHECK(sizeof(cattlecleat_return_host) == 16 && sizeof(cattlecleat_offset) == 16 && sizeof(cattlecleat_frame) == 32);
+    CHECK(sizeof(cattlecleat_hosted) == 40 && sizeof(cattlecleat_returned) == 56);
 }
 
 static void check_opening(void) {
@@ -351,6 +354,135 @@ static void check_host(void) {
     CHECK(a.number == 1 && a.host.start == 0 && a.host.end == 2 && w.cells[0] == 11 && w.cells[1] == 12);
 }
 
+/* A world of which the state is lent: beside w, it is asked for the same, and answers and holds the same. */
+static world v;
+
+static int same_host(cattlecleat_host_frame a, cattlecleat_host_frame b) {
+    return a.start == b.start && a.end == b.end && a.params == b.params && a.results == b.results;
+}
+
+static int same_offset(cattlecleat_offset a, cattlecleat_answer b) {
+    return a.number == b.number && a.offset == b.offset && b.ip == 0 && b.instance == 0 && b.host.end == 0;
+}
+
+static int same_frame(cattlecleat_frame a, cattlecleat_answer b) {
+    return a.number == b.number && a.offset == b.offset && a.ip == b.ip && a.instance == b.instance;
+}
+
+static int same_worlds(void) {
+    return same_state(w.state, v.state) && memcmp(w.words, v.words, sizeof w.words) == 0 && memcmp(w.cells, v.cells, sizeof w.cells) == 0;
+}
+
+static void check_pushed(cattlecleat_request q) {
+    const cattlecleat_push push = {q.head, q.params, q.locals, q.slots, q.caller_flag, q.caller, q.callee, q.instance_flag, q.instance};
+    CHECK(same_offset(cattlecleat_push_frame(&v.state, v.words, WORDS, v.cells, CELLS, &push), ask(q)) && same_worlds());
+}
+
+static void check_popped(uint64_t instance) {
+    const cattlecleat_request q = {.kind = CATTLECLEAT_POP, .instance = instance};
+    CHECK(same_frame(cattlecleat_pop_frame(&v.state, v.words, WORDS, v.cells, CELLS, instance), ask(q)) && same_worlds());
+}
+
+static void check_replaced(cattlecleat_request q) {
+    const cattlecleat_replace replace = {q.head, q.params, q.locals, q.slots, q.callee, q.instance_flag, q.instance};
+    CHECK(same_offset(cattlecleat_replace_frame(&v.state, v.words, WORDS, v.cells, CELLS, &replace), ask(q)) && same_worlds());
+}
+
+static void check_hosted(cattlecleat_request q) {
+    const cattlecleat_host host = {q.head, q.params, q.results, q.caller_flag, q.caller};
+    const cattlecleat_hosted a = cattlecleat_prepare_host_frame(&v.state, v.words, WORDS, v.cells, CELLS, &host);
+    const cattlecleat_answer b = ask(q);
+    CHECK(a.number == b.number && a.offset == b.offset && same_host(a.host, b.host) && same_worlds());
+    const cattlecleat_part part = cattlecleat_host_part_in_place(&v.state, v.words, WORDS, v.cells, CELLS, &a.host);
+    CHECK(part.number == 0 && part.offset == b.host.start && part.params == q.params && part.results == q.results);
+}
+
+static void check_returned(cattlecleat_request q) {
+    const cattlecleat_return_host host = {q.head, q.params, q.results, q.instance};
+    const cattlecleat_returned a = cattlecleat_return_prepare_host_frame(&v.state, v.words, WORDS, v.cells, CELLS, &host);
+    const cattlecleat_answer b = ask(q);
+    const cattlecleat_frame frame = {a.number, a.offset, a.ip, a.instance};
+    CHECK(same_frame(frame, b) && same_host(a.host, b.host) && same_worlds());
+}
+
+static void check_synced(uint64_t ip) {
+    const cattlecleat_request q = {.kind = CATTLECLEAT_SYNC, .caller = ip};
+    CHECK(same_offset(cattlecleat_sync_ip(&v.state, v.words, WORDS, v.cells, CELLS, ip), ask(q)) && same_worlds());
+}
+
+static void check_restored(void) {
+    const cattlecleat_answer b = ask(RESTORE);
+    CHECK(same_frame(cattlecleat_restore_frame(&v.state, v.words, WORDS, v.cells, CELLS), b) && same_worlds());
+    CHECK(b.number >= 2 || same_regs(v.state.regs, b.regs));
+}
+
+static void check_set(uint16_t head, uint64_t cell) {
+    const cattlecleat_request q = {.kind = CATTLECLEAT_SET, .head = head, .callee = cell};
+    CHECK(same_offset(cattlecleat_set(&v.state, v.words, WORDS, v.cells, CELLS, head, cell), ask(q)) && same_worlds());
+}
+
+static void check_stored(size_t n) {
+    const cattlecleat_registers regs = {.ireg = n, .freg32 = single(n), .freg64 = twice(n)};
+    cattlecleat_answer b = cattlecleat_sync_registers(w.state, w.words, WORDS, w.cells, CELLS, regs);
+    w.state = b.state;
+    CHECK(cattlecleat_sync_registers_in_place(&v.state, v.words, WORDS, v.cells, CELLS, &regs) == b.number && same_worlds());
+}
+
+static void check_reset(void) {
+    CHECK(cattlecleat_reset(&v.state, v.words, WORDS, v.cells, CELLS) == ask(RESET).number && same_worlds());
+}
+
+/* Every request in place, accepted and refused, with the state by value beside it. */
+static void check_lent(void) {
+    const cattlecleat_request tail = {.kind = CATTLECLEAT_REPLACE, .head = 1, .params = 1, .locals = 2, .slots = 3, .callee = 300};
+    const cattlecleat_request host = {.kind = CATTLECLEAT_HOST, .head = 3, .params = 1, .results = 3, .caller_flag = 1, .caller = 102};
+    const cattlecleat_request last = {.kind = CATTLECLEAT_RETURN_HOST, .head = 1, .params = 2, .results = 1, .instance = 9};
+    open_world();
+    memcpy(&v, &w, sizeof w);
+    check_popped(2);
+    check_restored();
+    check_pushed(P);
+    check_pushed(P);
+    check_stored(5);
+    check_pushed(Q);
+    check_synced(201);
+    check_restored();
+    check_set(1, 9);
+    check_set(3, 9);
+    check_replaced(tail);
+    check_hosted(host);
+    check_returned(last);
+    check_returned(last);
+    check_popped(2);
+    check_reset();
+    check_pushed(P);
+    w.state.len = v.state.len = CELLS + 1;
+    check_popped(2);
+    check_stored(1);
+    check_reset();
+}
+
+/* What a request does not move stays as it came, flags too. */
+static void check_not_written(void) {
+    const cattlecleat_host host = {.results = 5};
+    const cattlecleat_push push = {.slots = 1, .caller_flag = 7};
+    open_world();
+    ask(P);
+    w.state.current_flag = 7;
+    cattlecleat_state before = w.state;
+    CHECK(cattlecleat_prepare_host_frame(&w.state, w.words, WORDS, w.cells, CELLS, &host).number == 0);
+    before.len = 5;
+    CHECK(same_state(w.state, before));
+    CHECK(cattlecleat_push_frame(&w.state, w.words, WORDS, w.cells, CELLS, &push).number == 0);
+    before.count = 2;
+    before.current_flag = 1;
+    CHECK(same_state(w.state, before));
+    w.state.current_flag = before.current_flag = 0;
+    CHECK(cattlecleat_pop_frame(&w.state, w.words, WORDS, w.cells, CELLS, 1).number == 0);
+    before.count = 1;
+    CHECK(same_state(w.state, before));
+}
+
 int main(void) {
     check_sizes();
     check_opening();
@@ -366,6 +498,8 @@ int main(void) {
     check_registers();
     check_in_place();
     check_host();
+    check_lent();
+    check_not_written();
     printf("c: %u checks, %u failed\n", checks, failed);
     return failed != 0;
 }

@@ -8,12 +8,13 @@ use borrow.Author.Tests.{le-leb}
 use denote.Ref.{now}
 use Rattle.choice.specs.Choose.{choose}
 use Rattle.choice.specs.Tests.{FirstIs, here, there}
+use Rattle.regs.specs.Registers.{zeroRegisters}
 use Rattle.rules.specs.declared.State.{State}
 use Rattle.rules.specs.declared.Request.the-variants.{Push, Pop, Replace, Host, ReturnHost, Sync, Restore, Reset, Set}
 use Rattle.rules.specs.declared.Asked.{Asked}
 use Rattle.rules.specs.declared.Asked.the-variants.{Traced, SyncRegs, HostPart}
 use Rattle.rules.specs.World.{World}
-use Rattle.rules.specs.Answers.{After}
+use Rattle.rules.specs.Answers.{Shown, After}
 use Rattle.rules.specs.Calls.{pushTests, replaceTests}
 use Rattle.rules.specs.Returns.{popTests}
 use Rattle.rules.specs.Hosts.{hostTests, returnHostTests, partTests}
@@ -27,10 +28,17 @@ use Rattle.face.specs.declared.state.CState.{CState}
 use Rattle.face.specs.Requests.{requestFrom}
 use Rattle.face_ask.specs.declared.answers.CAnswer.{CAnswer}
 use Rattle.face_ask.specs.Told.{stateAfter, told, ToldAnswer, afterTold}
+use Rattle.face_place.specs.declared.answers.COffset.{COffset}
+use Rattle.face_place.specs.declared.answers.CFrame.{CFrame}
+use Rattle.face_place.specs.declared.answers.CHosted.{CHosted}
+use Rattle.face_place.specs.declared.answers.CReturned.{CReturned}
+use Rattle.face_place.specs.Held.{movedPut, lenPut, registersLaid, emptiedPut, unlessRefused}
+use Rattle.face_place.specs.Placed.{numberTold, offsetTold, frameTold, hostedTold, returnedTold, worldHeld, answeredIn, sameAfter, Placed, placed, placedAfter}
+use Rattle.face_place.proofs.Said.{left-refused}
 use Rattle.face_replay.specs.Runs.{RunTold}
 use Rattle.face_replay.proofs.Backs.{state-as-it-came}
 use Rattle.demands.specs.Heard.{worldSaid}
-use Rattle.demands.specs.AsTheyCame.{NumbersAsked, StatesAsTheyCame, RunsAsTheyCame}
+use Rattle.demands.specs.AsTheyCame.{NumbersAsked, StatesAsTheyCame, WordsAsTheyCame, RunsAsTheyCame}
 
 -- ---- 10
 
@@ -91,6 +99,44 @@ states-as-they-came = (
   λ κ a r e p two.
       let w = worldSaid (a .0) (now (a .1 .0)) (now (a .1 .1 .0)) in
       as-it-came (a .0) (answered w (SyncRegs (a .1 .1 .1 .0))) r (now (a .1 .0)) (now (a .1 .1 .0)) p two,
+)
+
+-- in place: the state as it came, by the number that was handed out
+module _ {A : Type 0} (tell : Shown → A) (number : A → ℕ) (own : (t : Shown) → number (tell t) ≡ t .number) (put : List ℕ → After → List ℕ) where
+  abbrev leftBy : List ℕ → After → List ℕ
+  leftBy st t = unlessRefused (t .shown .number) st (put st t)
+
+  module _ (st words cells : List ℕ) (a : Asked) (r : A) (st′ words′ cells′ : List ℕ) where
+    abbrev answer : After
+    answer = answeredIn st words cells a
+
+    same-state : (left : List ℕ → After → List ℕ) → placed r st′ words′ cells′ ≡ placedAfter tell left st answer → 2 ≤ number r
+        → ((2 ≤ answer .shown .number) × (words′ ≡ words)) × (cells′ ≡ cells)
+    same-state left p two =
+        let refused = rw (ap (λ (t : Placed A). number (t .told)) p ∙ own (answer .shown)) at two in
+        let same = refused-unchanged (worldHeld st zeroRegisters words cells) a refused .0 in
+        let words-same = ap (λ (t : Placed A). t .words) p ∙ ap (λ (u : World). u .words) same in
+        let cells-same = ap (λ (t : Placed A). t .cells) p ∙ ap (λ (u : World). u .cells) same in
+        ((refused, words-same), cells-same)
+
+    as-left : placed r st′ words′ cells′ ≡ placedAfter tell leftBy st answer → 2 ≤ number r → (st′ ≡ st) × (words′ ≡ words) × (cells′ ≡ cells)
+    as-left p two =
+        let same = same-state leftBy p two in
+        (ap (λ (t : Placed A). t .state) p ∙ left-refused (answer .shown .number) st (put st answer) (same .0 .0), same .0 .1, same .1)
+
+pub words-as-they-came : WordsAsTheyCame
+words-as-they-came = (
+  λ κ a r e p two. as-left offsetTold (λ (r : COffset). r .number) (λ t. refl) (λ st t. movedPut st (t .world .state)) _ _ _ _ _ _ _ _ p two,
+  λ κ a r e p two. as-left frameTold (λ (r : CFrame). r .number) (λ t. refl) (λ st t. movedPut st (t .world .state)) _ _ _ _ _ _ _ _ p two .0,
+  λ κ a r e p two. as-left offsetTold (λ (r : COffset). r .number) (λ t. refl) (λ st t. movedPut st (t .world .state)) _ _ _ _ _ _ _ _ p two,
+  λ κ a r e p two. as-left hostedTold (λ (r : CHosted). r .number) (λ t. refl) (λ st t. lenPut st (t .world .state)) _ _ _ _ _ _ _ _ p two,
+  λ κ a r e p two.
+      let same = as-left returnedTold (λ (r : CReturned). r .number) (λ t. refl) (λ st t. movedPut st (t .world .state)) _ _ _ _ _ _ _ _ p two in
+      (same .0, same .2),
+  λ κ a r e p two. same-state offsetTold (λ (r : COffset). r .number) (λ t. refl) (λ st t. st) _ _ _ _ _ _ _ _ sameAfter p two .0 .1,
+  λ κ a r e p two. same-state offsetTold (λ (r : COffset). r .number) (λ t. refl) (λ st t. st) _ _ _ _ _ _ _ _ sameAfter p two .1,
+  λ κ a r e p two. as-left numberTold (λ n. n) (λ t. refl) (λ st t. emptiedPut st) _ _ _ _ _ _ _ _ p two .0,
+  λ κ a r e p two. as-left numberTold (λ n. n) (λ t. refl) (λ st t. registersLaid st (now (a .1 .1 .1 .0))) _ _ _ _ _ _ _ _ p two .0,
 )
 
 pub runs-as-they-came : RunsAsTheyCame

@@ -1,7 +1,7 @@
 -- The three demands. Assumes nothing.
 use Rattle.demands.specs.Demands.{Demand1, Demand2, Demand3}
 use Rattle.demands.proofs.Answers.{requests-refused, requests-follow, histories-follow}
-use Rattle.demands.proofs.AsTheyCame.{numbers-asked, states-as-they-came, runs-as-they-came}
+use Rattle.demands.proofs.AsTheyCame.{numbers-asked, states-as-they-came, words-as-they-came, runs-as-they-came}
 use Rattle.demands.proofs.Openings.{openings-answered}
 use Rattle.demands.proofs.Leaves.{slots-filled, slots-taken, addresses-aligned}
 use Rattle.demands.proofs.Records.{records-read, records-written, requests-decoded, requests-walked, records-read-back, numbers-read-back}
@@ -14,6 +14,7 @@ demand-1 = (
   requests-refused,
   numbers-asked,
   states-as-they-came,
+  words-as-they-came,
   runs-as-they-came,
   openings-answered,
   slots-filled,

@@ -22,6 +22,7 @@ use Rattle.replay.proofs.Settled as replay-all
 use Rattle.listing.proofs.Settled as listing-all
 use Rattle.face.proofs.Settled as face-all
 use Rattle.face_leaves.proofs.Settled as face-leaves-all
+use Rattle.face_place.proofs.Settled as face-place-all
 use Rattle.face_ask.proofs.Settled as face-ask-all
 use Rattle.face_replay.proofs.Settled as face-replay-all
 use Rattle.given.proofs.given_if as given-given-if
@@ -166,6 +167,7 @@ use Rattle.replay.proofs.run_record as replay-run-record
 use Rattle.replay.proofs.start as replay-start
 use Rattle.listing.proofs.list_block as listing-list-block
 use Rattle.listing.proofs.list_end as listing-list-end
+use Rattle.face.proofs.part_told as face-part-told
 use Rattle.face.proofs.request_from as face-request-from
 use Rattle.face.proofs.request_to as face-request-to
 use Rattle.face.proofs.state_from as face-state-from
@@ -183,6 +185,17 @@ use Rattle.face_leaves.proofs.cattlecleat_take_done_reason as face-leaves-cattl
 use Rattle.face_leaves.proofs.cattlecleat_to_register as face-leaves-cattlecleat-to-register
 use Rattle.face_leaves.proofs.cattlecleat_write_record as face-leaves-cattlecleat-write-record
 use Rattle.face_leaves.proofs.cattlecleat_zero_registers as face-leaves-cattlecleat-zero-registers
+use Rattle.face_place.proofs.cattlecleat_host_part_in_place as face-place-cattlecleat-host-part-in-place
+use Rattle.face_place.proofs.cattlecleat_pop_frame as face-place-cattlecleat-pop-frame
+use Rattle.face_place.proofs.cattlecleat_prepare_host_frame as face-place-cattlecleat-prepare-host-frame
+use Rattle.face_place.proofs.cattlecleat_push_frame as face-place-cattlecleat-push-frame
+use Rattle.face_place.proofs.cattlecleat_replace_frame as face-place-cattlecleat-replace-frame
+use Rattle.face_place.proofs.cattlecleat_reset as face-place-cattlecleat-reset
+use Rattle.face_place.proofs.cattlecleat_restore_frame as face-place-cattlecleat-restore-frame
+use Rattle.face_place.proofs.cattlecleat_return_prepare_host_frame as face-place-cattlecleat-return-prepare-host-frame
+use Rattle.face_place.proofs.cattlecleat_set as face-place-cattlecleat-set
+use Rattle.face_place.proofs.cattlecleat_sync_ip as face-place-cattlecleat-sync-ip
+use Rattle.face_place.proofs.cattlecleat_sync_registers_in_place as face-place-cattlecleat-sync-registers-in-place
 use Rattle.face_ask.proofs.cattlecleat_ask as face-ask-cattlecleat-ask
 use Rattle.face_ask.proofs.cattlecleat_host_part as face-ask-cattlecleat-host-part
 use Rattle.face_ask.proofs.cattlecleat_open as face-ask-cattlecleat-open
@@ -2178,6 +2191,20 @@ settled-listing-list-end = record {
       (λ i. s i .0, λ i. (a .0, (at-last (a .1 .0) (s i .1), tt)));
 }
 
+pub settled-face-part-told :
+    Settled face-part-told.ended (λ M. face-part-told.clauses {M = M}) (λ κ r. r)
+settled-face-part-told = record {
+  Post = λ κ a r e. _;
+  asks-nothing = λ M 𝓤 H A mem run κ a g. refl;
+  asks-no-ghost = λ M 𝓤 H A mem run κ a. refl;
+  promises = λ M 𝓤 H A mem run κ a g r e. refl;
+  once = λ κ a r r′ ws ws′ p q.
+      let e = atExit face-part-told.ended κ a ws in
+      let e′ = atExit face-part-told.ended κ a ws′ in
+      let s = face-all.part-told-settled κ a r r′ e e′ p q in
+      (s, refl);
+}
+
 pub settled-face-request-from :
     Settled face-request-from.ended (λ M. face-request-from.clauses {M = M}) (λ κ r. r)
 settled-face-request-from = record {
@@ -2414,6 +2441,160 @@ settled-face-leaves-cattlecleat-zero-registers = record {
       let e′ = atExit face-leaves-cattlecleat-zero-registers.ended κ a ws′ in
       let s = face-leaves-all.cattlecleat-zero-registers-settled κ a r r′ e e′ p q in
       (refl, λ i. (at-last (a .0) (s i), tt));
+}
+
+pub settled-face-place-cattlecleat-host-part-in-place :
+    Settled face-place-cattlecleat-host-part-in-place.ended (λ M. face-place-cattlecleat-host-part-in-place.clauses {M = M}) (λ κ r. r)
+settled-face-place-cattlecleat-host-part-in-place = record {
+  Post = λ κ a r e. _;
+  asks-nothing = λ M 𝓤 H A mem run κ a g. refl;
+  asks-no-ghost = λ M 𝓤 H A mem run κ a. refl;
+  promises = λ M 𝓤 H A mem run κ a g r e. refl;
+  once = λ κ a r r′ ws ws′ p q.
+      let e = atExit face-place-cattlecleat-host-part-in-place.ended κ a ws in
+      let e′ = atExit face-place-cattlecleat-host-part-in-place.ended κ a ws′ in
+      let s = face-place-all.cattlecleat-host-part-in-place-settled κ a r r′ e e′ p q in
+      (s, refl);
+}
+
+pub settled-face-place-cattlecleat-pop-frame :
+    Settled face-place-cattlecleat-pop-frame.ended (λ M. face-place-cattlecleat-pop-frame.clauses {M = M}) (λ κ r. r)
+settled-face-place-cattlecleat-pop-frame = record {
+  Post = λ κ a r e. _;
+  asks-nothing = λ M 𝓤 H A mem run κ a g. refl;
+  asks-no-ghost = λ M 𝓤 H A mem run κ a. refl;
+  promises = λ M 𝓤 H A mem run κ a g r e. refl;
+  once = λ κ a r r′ ws ws′ p q.
+      let e = atExit face-place-cattlecleat-pop-frame.ended κ a ws in
+      let e′ = atExit face-place-cattlecleat-pop-frame.ended κ a ws′ in
+      let s = face-place-all.cattlecleat-pop-frame-settled κ a r r′ e e′ p q in
+      (λ i. s i .0, λ i. (at-last (a .0) (s i .1), (a .1 .0, (a .1 .1 .0, (a .1 .1 .1 .0, tt)))));
+}
+
+pub settled-face-place-cattlecleat-prepare-host-frame :
+    Settled face-place-cattlecleat-prepare-host-frame.ended (λ M. face-place-cattlecleat-prepare-host-frame.clauses {M = M}) (λ κ r. r)
+settled-face-place-cattlecleat-prepare-host-frame = record {
+  Post = λ κ a r e. _;
+  asks-nothing = λ M 𝓤 H A mem run κ a g. refl;
+  asks-no-ghost = λ M 𝓤 H A mem run κ a. refl;
+  promises = λ M 𝓤 H A mem run κ a g r e. refl;
+  once = λ κ a r r′ ws ws′ p q.
+      let e = atExit face-place-cattlecleat-prepare-host-frame.ended κ a ws in
+      let e′ = atExit face-place-cattlecleat-prepare-host-frame.ended κ a ws′ in
+      let s = face-place-all.cattlecleat-prepare-host-frame-settled κ a r r′ e e′ p q in
+      (λ i. s i .0, λ i. (at-last (a .0) (s i .1 .0), (at-last (a .1 .0) (s i .1 .1 .0), (at-last (a .1 .1 .0) (s i .1 .1 .1), (a .1 .1 .1 .0, tt)))));
+}
+
+pub settled-face-place-cattlecleat-push-frame :
+    Settled face-place-cattlecleat-push-frame.ended (λ M. face-place-cattlecleat-push-frame.clauses {M = M}) (λ κ r. r)
+settled-face-place-cattlecleat-push-frame = record {
+  Post = λ κ a r e. _;
+  asks-nothing = λ M 𝓤 H A mem run κ a g. refl;
+  asks-no-ghost = λ M 𝓤 H A mem run κ a. refl;
+  promises = λ M 𝓤 H A mem run κ a g r e. refl;
+  once = λ κ a r r′ ws ws′ p q.
+      let e = atExit face-place-cattlecleat-push-frame.ended κ a ws in
+      let e′ = atExit face-place-cattlecleat-push-frame.ended κ a ws′ in
+      let s = face-place-all.cattlecleat-push-frame-settled κ a r r′ e e′ p q in
+      (λ i. s i .0, λ i. (at-last (a .0) (s i .1 .0), (at-last (a .1 .0) (s i .1 .1 .0), (at-last (a .1 .1 .0) (s i .1 .1 .1), (a .1 .1 .1 .0, tt)))));
+}
+
+pub settled-face-place-cattlecleat-replace-frame :
+    Settled face-place-cattlecleat-replace-frame.ended (λ M. face-place-cattlecleat-replace-frame.clauses {M = M}) (λ κ r. r)
+settled-face-place-cattlecleat-replace-frame = record {
+  Post = λ κ a r e. _;
+  asks-nothing = λ M 𝓤 H A mem run κ a g. refl;
+  asks-no-ghost = λ M 𝓤 H A mem run κ a. refl;
+  promises = λ M 𝓤 H A mem run κ a g r e. refl;
+  once = λ κ a r r′ ws ws′ p q.
+      let e = atExit face-place-cattlecleat-replace-frame.ended κ a ws in
+      let e′ = atExit face-place-cattlecleat-replace-frame.ended κ a ws′ in
+      let s = face-place-all.cattlecleat-replace-frame-settled κ a r r′ e e′ p q in
+      (λ i. s i .0, λ i. (at-last (a .0) (s i .1 .0), (at-last (a .1 .0) (s i .1 .1 .0), (at-last (a .1 .1 .0) (s i .1 .1 .1), (a .1 .1 .1 .0, tt)))));
+}
+
+pub settled-face-place-cattlecleat-reset :
+    Settled face-place-cattlecleat-reset.ended (λ M. face-place-cattlecleat-reset.clauses {M = M}) (λ κ r. r)
+settled-face-place-cattlecleat-reset = record {
+  Post = λ κ a r e. _;
+  asks-nothing = λ M 𝓤 H A mem run κ a g. refl;
+  asks-no-ghost = λ M 𝓤 H A mem run κ a. refl;
+  promises = λ M 𝓤 H A mem run κ a g r e. refl;
+  once = λ κ a r r′ ws ws′ p q.
+      let e = atExit face-place-cattlecleat-reset.ended κ a ws in
+      let e′ = atExit face-place-cattlecleat-reset.ended κ a ws′ in
+      let s = face-place-all.cattlecleat-reset-settled κ a r r′ e e′ p q in
+      (λ i. s i .0, λ i. (at-last (a .0) (s i .1), (a .1 .0, (a .1 .1 .0, tt))));
+}
+
+pub settled-face-place-cattlecleat-restore-frame :
+    Settled face-place-cattlecleat-restore-frame.ended (λ M. face-place-cattlecleat-restore-frame.clauses {M = M}) (λ κ r. r)
+settled-face-place-cattlecleat-restore-frame = record {
+  Post = λ κ a r e. _;
+  asks-nothing = λ M 𝓤 H A mem run κ a g. refl;
+  asks-no-ghost = λ M 𝓤 H A mem run κ a. refl;
+  promises = λ M 𝓤 H A mem run κ a g r e. refl;
+  once = λ κ a r r′ ws ws′ p q.
+      let e = atExit face-place-cattlecleat-restore-frame.ended κ a ws in
+      let e′ = atExit face-place-cattlecleat-restore-frame.ended κ a ws′ in
+      let s = face-place-all.cattlecleat-restore-frame-settled κ a r r′ e e′ p q in
+      (s, refl);
+}
+
+pub settled-face-place-cattlecleat-return-prepare-host-frame :
+    Settled face-place-cattlecleat-return-prepare-host-frame.ended (λ M. face-place-cattlecleat-return-prepare-host-frame.clauses {M = M}) (λ κ r. r)
+settled-face-place-cattlecleat-return-prepare-host-frame = record {
+  Post = λ κ a r e. _;
+  asks-nothing = λ M 𝓤 H A mem run κ a g. refl;
+  asks-no-ghost = λ M 𝓤 H A mem run κ a. refl;
+  promises = λ M 𝓤 H A mem run κ a g r e. refl;
+  once = λ κ a r r′ ws ws′ p q.
+      let e = atExit face-place-cattlecleat-return-prepare-host-frame.ended κ a ws in
+      let e′ = atExit face-place-cattlecleat-return-prepare-host-frame.ended κ a ws′ in
+      let s = face-place-all.cattlecleat-return-prepare-host-frame-settled κ a r r′ e e′ p q in
+      (λ i. s i .0, λ i. (at-last (a .0) (s i .1 .0), (a .1 .0, (at-last (a .1 .1 .0) (s i .1 .1), (a .1 .1 .1 .0, tt)))));
+}
+
+pub settled-face-place-cattlecleat-set :
+    Settled face-place-cattlecleat-set.ended (λ M. face-place-cattlecleat-set.clauses {M = M}) (λ κ r. r)
+settled-face-place-cattlecleat-set = record {
+  Post = λ κ a r e. _;
+  asks-nothing = λ M 𝓤 H A mem run κ a g. refl;
+  asks-no-ghost = λ M 𝓤 H A mem run κ a. refl;
+  promises = λ M 𝓤 H A mem run κ a g r e. refl;
+  once = λ κ a r r′ ws ws′ p q.
+      let e = atExit face-place-cattlecleat-set.ended κ a ws in
+      let e′ = atExit face-place-cattlecleat-set.ended κ a ws′ in
+      let s = face-place-all.cattlecleat-set-settled κ a r r′ e e′ p q in
+      (λ i. s i .0, λ i. (a .0, (a .1 .0, (at-last (a .1 .1 .0) (s i .1), (a .1 .1 .1 .0, (a .1 .1 .1 .1 .0, tt))))));
+}
+
+pub settled-face-place-cattlecleat-sync-ip :
+    Settled face-place-cattlecleat-sync-ip.ended (λ M. face-place-cattlecleat-sync-ip.clauses {M = M}) (λ κ r. r)
+settled-face-place-cattlecleat-sync-ip = record {
+  Post = λ κ a r e. _;
+  asks-nothing = λ M 𝓤 H A mem run κ a g. refl;
+  asks-no-ghost = λ M 𝓤 H A mem run κ a. refl;
+  promises = λ M 𝓤 H A mem run κ a g r e. refl;
+  once = λ κ a r r′ ws ws′ p q.
+      let e = atExit face-place-cattlecleat-sync-ip.ended κ a ws in
+      let e′ = atExit face-place-cattlecleat-sync-ip.ended κ a ws′ in
+      let s = face-place-all.cattlecleat-sync-ip-settled κ a r r′ e e′ p q in
+      (λ i. s i .0, λ i. (a .0, (at-last (a .1 .0) (s i .1), (a .1 .1 .0, (a .1 .1 .1 .0, tt)))));
+}
+
+pub settled-face-place-cattlecleat-sync-registers-in-place :
+    Settled face-place-cattlecleat-sync-registers-in-place.ended (λ M. face-place-cattlecleat-sync-registers-in-place.clauses {M = M}) (λ κ r. r)
+settled-face-place-cattlecleat-sync-registers-in-place = record {
+  Post = λ κ a r e. _;
+  asks-nothing = λ M 𝓤 H A mem run κ a g. refl;
+  asks-no-ghost = λ M 𝓤 H A mem run κ a. refl;
+  promises = λ M 𝓤 H A mem run κ a g r e. refl;
+  once = λ κ a r r′ ws ws′ p q.
+      let e = atExit face-place-cattlecleat-sync-registers-in-place.ended κ a ws in
+      let e′ = atExit face-place-cattlecleat-sync-registers-in-place.ended κ a ws′ in
+      let s = face-place-all.cattlecleat-sync-registers-in-place-settled κ a r r′ e e′ p q in
+      (λ i. s i .0, λ i. (at-last (a .0) (s i .1), (a .1 .0, (a .1 .1 .0, (a .1 .1 .1 .0, tt)))));
 }
 
 pub settled-face-ask-cattlecleat-ask :

@@ -12,13 +12,14 @@ use borrow.Author.Tests.{leb-true}
 use denote.Ref.{now}
 use Rattle.choice.specs.Choose.{choose}
 use Rattle.choice.proofs.Verdict.{Verdict, passes, fails, verdict, accepts, refuses}
+use Rattle.regs.specs.declared.registers.Registers.{Registers}
 use Rattle.cells.specs.declared.host.HostFrame.{HostFrame}
 use Rattle.cells.proofs.Hosts.{results-stored}
 use Rattle.rules.specs.declared.State.{State}
 use Rattle.rules.specs.declared.Asked.{Asked}
 use Rattle.rules.specs.declared.Asked.the-variants.{Traced, SyncRegs, HostPart}
 use Rattle.rules.specs.World.{World, worldOf}
-use Rattle.rules.specs.Answers.{noValues, shownOf, After, afterOf, refusedWith}
+use Rattle.rules.specs.Answers.{noValues, Shown, shownOf, After, afterOf, refusedWith}
 use Rattle.rules.specs.Hosts.{partTests, partLent}
 use Rattle.rules.specs.Rules.{answered}
 use Rattle.rules.specs.Events.{asks, hostWrote, steppedBy}
@@ -30,9 +31,17 @@ use Rattle.face.specs.declared.state.CState.{CState}
 use Rattle.face.specs.States.{stateFrom, stateTo}
 use Rattle.face.proofs.Handed.{state-kept}
 use Rattle.face_ask.specs.Told.{stateAfter, ToldAnswer, afterTold}
-use Rattle.face_ask.specs.Parts.{partWith, partRefused, sizeOf, frameLent, partTold}
+use Rattle.face.specs.Parts.{partWith, partRefused, sizeOf, frameLent, partTold}
+use Rattle.face_place.specs.Held.{registersHeld}
+use Rattle.face_place.specs.Args.{pushHeld, replaceHeld, hostHeld, returnHostHeld, hostFrameHeld}
+use Rattle.face_place.specs.Placed.{worldHeld, Placed}
+use Rattle.face_place.specs.Said.{numberShown, offsetShown, frameShown, restoredShown, hostedShown, returnedShown}
+use Rattle.face_place.proofs.Said.{placed-said, whole-said, parts-said}
 use Rattle.demands.specs.Heard.{worldSaid, afterSaid, partSaid, Heard, by-push-frame, by-pop-frame, by-replace-frame, by-prepare-host-frame}
 use Rattle.demands.specs.Heard.{by-return-prepare-host-frame, by-sync-ip, by-restore-frame, by-reset, by-set, by-sync-regs, by-host-inout, by-ask}
+use Rattle.demands.specs.Heard.{by-cattlecleat-push-frame, by-cattlecleat-pop-frame, by-cattlecleat-replace-frame, by-cattlecleat-prepare-host-frame}
+use Rattle.demands.specs.Heard.{by-cattlecleat-return-prepare-host-frame, by-cattlecleat-sync-ip, by-cattlecleat-restore-frame, by-cattlecleat-set}
+use Rattle.demands.specs.Heard.{by-cattlecleat-reset, by-cattlecleat-sync-registers-in-place, by-cattlecleat-host-part-in-place}
 use Rattle.demands.specs.Heard.{by-cattlecleat-ask, by-cattlecleat-sync-registers, by-cattlecleat-host-part, RoutineHeard, by-call-host, routineWrites}
 
 -- ---- numbers
@@ -80,6 +89,16 @@ part-said w f = by (verdict (partTests w f))
         ap (λ r. partSaid r w) (refuses partRefused (frameLent f) p)
         ∙ sym (refuses (refusedWith w) (partLent w) p)
 
+-- what is handed out and left in place, read together
+placed-there : {A : Type 0} (show : A → Shown) (regs : Registers) {t u : Placed A} → t ≡ u
+    → afterOf (show (t .told)) (worldHeld (t .state) regs (t .words) (t .cells)) ≡ afterOf (show (u .told)) (worldHeld (u .state) regs (u .words) (u .cells))
+placed-there show regs p = ap (λ x. afterOf (show (x .told)) (worldHeld (x .state) regs (x .words) (x .cells))) p
+
+whole-there : {t u : Placed ℕ} → t ≡ u
+    → afterOf (numberShown (t .told)) (worldHeld (t .state) (registersHeld (t .state) 8) (t .words) (t .cells))
+    ≡ afterOf (numberShown (u .told)) (worldHeld (u .state) (registersHeld (u .state) 8) (u .words) (u .cells))
+whole-there p = ap (λ x. afterOf (numberShown (x .told)) (worldHeld (x .state) (registersHeld (x .state) 8) (x .words) (x .cells))) p
+
 pub heard-answered : {w : World} {a : Asked} {t : After} → Heard w a t → t ≡ answered w a
 heard-answered (by-push-frame κ a r e p) = p
 heard-answered (by-pop-frame κ a r e p) = p
@@ -101,6 +120,30 @@ heard-answered (by-cattlecleat-sync-registers κ a r e p) =
 heard-answered (by-cattlecleat-host-part κ a r e p) =
     let w = worldSaid (a .0) (now (a .1 .0)) (now (a .1 .1 .0)) in
     ap (λ t. partSaid t w) p ∙ part-said w (a .1 .1 .1 .0)
+heard-answered (by-cattlecleat-push-frame κ a r e p regs long) =
+    placed-there offsetShown regs p ∙ placed-said .0 (pushHeld (now (a .1 .1 .1 .0))) (now (a .0)) (now (a .1 .0)) (now (a .1 .1 .0)) regs long
+heard-answered (by-cattlecleat-pop-frame κ a r e p regs long) =
+    placed-there frameShown regs p ∙ placed-said .1 (a .1 .1 .1 .0) (now (a .0)) (now (a .1 .0)) (now (a .1 .1 .0)) regs long
+heard-answered (by-cattlecleat-replace-frame κ a r e p regs long) =
+    placed-there offsetShown regs p ∙ placed-said .2 (replaceHeld (now (a .1 .1 .1 .0))) (now (a .0)) (now (a .1 .0)) (now (a .1 .1 .0)) regs long
+heard-answered (by-cattlecleat-prepare-host-frame κ a r e p regs long) =
+    placed-there hostedShown regs p ∙ placed-said .3 (hostHeld (now (a .1 .1 .1 .0))) (now (a .0)) (now (a .1 .0)) (now (a .1 .1 .0)) regs long
+heard-answered (by-cattlecleat-return-prepare-host-frame κ a r e p regs long) =
+    placed-there returnedShown regs p ∙ placed-said .4 (returnHostHeld (now (a .1 .1 .1 .0))) (now (a .0)) (now (a .1 .0)) (now (a .1 .1 .0)) regs long
+heard-answered (by-cattlecleat-sync-ip κ a r e p regs long) =
+    placed-there offsetShown regs p ∙ placed-said .5 (a .1 .1 .1 .0) (now (a .0)) (now (a .1 .0)) (now (a .1 .1 .0)) regs long
+heard-answered (by-cattlecleat-restore-frame κ a r e p regs long) =
+    placed-there (restoredShown regs) regs p ∙ placed-said .6 (now (a .0)) (now (a .1 .0)) (now (a .1 .1 .0)) regs long
+heard-answered (by-cattlecleat-set κ a r e p regs long) =
+    placed-there offsetShown regs p ∙ placed-said .7 (a .1 .1 .1 .0) (a .1 .1 .1 .1 .0) (now (a .0)) (now (a .1 .0)) (now (a .1 .1 .0)) regs long
+heard-answered (by-cattlecleat-reset κ a r e p long) =
+    whole-there p ∙ whole-said .0 (now (a .0)) (now (a .1 .0)) (now (a .1 .1 .0)) long
+heard-answered (by-cattlecleat-sync-registers-in-place κ a r e p long) =
+    whole-there p ∙ whole-said .1 (now (a .1 .1 .1 .0)) (now (a .0)) (now (a .1 .0)) (now (a .1 .1 .0)) long
+heard-answered (by-cattlecleat-host-part-in-place κ a r e p regs) =
+    let w = worldHeld (now (a .0)) regs (now (a .1 .0)) (now (a .1 .1 .0)) in
+    ap (λ t. partSaid t w) (p ∙ parts-said (now (a .0)) (now (a .1 .0)) (now (a .1 .1 .0)) regs (hostFrameHeld (now (a .1 .1 .1 .0))))
+    ∙ part-said w (hostFrameHeld (now (a .1 .1 .1 .0)))
 
 -- ---- the routine
 pub part-step : (w : World) (f : HostFrame) → steppedBy w (asks (HostPart f)) ≡ w

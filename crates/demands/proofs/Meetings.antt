@@ -22,7 +22,7 @@ use Rattle.face.specs.States.{stateTo}
 use Rattle.face.specs.Requests.{requestFrom, requestTo}
 use Rattle.face.proofs.Handed.{state-kept, request-kept}
 use Rattle.face_ask.specs.Told.{told, ToldAnswer, afterTold}
-use Rattle.face_ask.specs.Parts.{partTold}
+use Rattle.face.specs.Parts.{partTold}
 use Rattle.face_replay.specs.Runs.{RunTold, runningBack, runningFrom}
 use Rattle.face_replay.proofs.Backs.{running-said}
 use Rattle.demands.specs.Heard.{worldSaid, Heard, by-cattlecleat-ask, by-cattlecleat-sync-registers, by-cattlecleat-host-part}

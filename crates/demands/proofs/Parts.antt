@@ -19,11 +19,14 @@ use Rattle.rules.specs.Broken.{brokenState}
 use Rattle.rules.specs.Hosts.{partTests, partCells, partPlace}
 use Rattle.rules.specs.Returning.{Inside}
 use Rattle.rules.proofs.Confined.{handed-out-rises}
-use Rattle.face_ask.specs.declared.parts.CPart.{CPart}
-use Rattle.face_ask.specs.Parts.{partTold}
-use Rattle.face_ask.proofs.Within.{part-within, part-is-lent}
+use Rattle.face.specs.declared.parts.CPart.{CPart}
+use Rattle.face.specs.Parts.{partTold}
+use Rattle.face.proofs.Within.{part-within, part-is-lent}
+use Rattle.face_place.specs.Args.{hostFrameHeld}
+use Rattle.face_place.specs.Placed.{worldHeld}
+use Rattle.face_place.proofs.Said.{parts-said}
 use Rattle.demands.specs.Heard.{worldSaid, routineWrites}
-use Rattle.demands.specs.Parts.{PartsInside, RoutineInside, LentAsTold, PartsTold}
+use Rattle.demands.specs.Parts.{PartsInside, RoutineInside, ToldWithin, PartsTold}
 use Rattle.demands.proofs.Heard.{heard-answered}
 
 -- where it has cells
@@ -73,15 +76,17 @@ routine-inside u a t heard w =
     (subst (λ (o : After). o .shown .values .host .start ≤ o .shown .values .host .end) (sym (heard-answered heard)) (handed-out-rises u a))
 
 -- ---- over the C face
-pub parts-told : PartsTold
-parts-told κ a r e p =
-    let w = worldSaid (a .0) (now (a .1 .0)) (now (a .1 .1 .0)) in
-    let f = a .1 .1 .1 .0 in
+told-within : (w : World) (f : HostFrame) (r : CPart) → r ≡ partTold w f → ToldWithin w f r
+told-within w f r p =
     let within = part-within w f in
-    let lent : partTold w f .number ≡ 0 → LentAsTold w f (partTold w f) = λ zero.
-    (part-is-lent w f zero .0, part-is-lent w f zero .1 .0, part-is-lent w f zero .1 .1) in
-    subst
-    (λ (t : CPart).
-    (t .params ≤ t .results) × (t .offset + t .results ≤ length (now (a .1 .1 .0))) × (t .number ≡ 0 → LentAsTold w f t))
-    (sym p)
-    (within .0, within .1, lent)
+    subst (ToldWithin w f) (sym p)
+    (within .0, within .1, λ zero. (part-is-lent w f zero .0, part-is-lent w f zero .1 .0, part-is-lent w f zero .1 .1))
+
+pub parts-told : PartsTold
+parts-told = (
+  λ κ a r e p. told-within (worldSaid (a .0) (now (a .1 .0)) (now (a .1 .1 .0))) (a .1 .1 .1 .0) r p,
+  λ κ a r e p regs.
+      let f = hostFrameHeld (now (a .1 .1 .1 .0)) in
+      told-within (worldHeld (now (a .0)) regs (now (a .1 .0)) (now (a .1 .1 .0))) f r
+      (p ∙ parts-said (now (a .0)) (now (a .1 .0)) (now (a .1 .1 .0)) regs f),
+)

@@ -6,7 +6,7 @@
 --     Demand3     a caller's frame and a current instance; a call is accepted; any requests follow that never take the depth below the callee's; a
 --                 return ends it. Then the caller is as it was
 use Rattle.demands.specs.Answers.{RequestsRefused, RequestsFollow, HistoriesFollow}
-use Rattle.demands.specs.AsTheyCame.{NumbersAsked, StatesAsTheyCame, RunsAsTheyCame}
+use Rattle.demands.specs.AsTheyCame.{NumbersAsked, StatesAsTheyCame, WordsAsTheyCame, RunsAsTheyCame}
 use Rattle.demands.specs.Openings.{OpeningsAnswered}
 use Rattle.demands.specs.Leaves.{SlotsFilled, SlotsTaken, AddressesAligned}
 use Rattle.demands.specs.Records.{RecordsRead, RecordsWritten, RequestsDecoded, RequestsWalked, RecordsReadBack, NumbersReadBack}
@@ -20,6 +20,7 @@ Demand1 =
     RequestsRefused
     × NumbersAsked
     × StatesAsTheyCame
+    × WordsAsTheyCame
     × RunsAsTheyCame
     -- 14
     × OpeningsAnswered

@@ -7,10 +7,11 @@
 --     routineWrites w f      what that routine writes: nothing where it is refused
 use mathlib.Core.Path.{_≡_}
 use mathlib.Core.List.{List, [], _∷_}
-use Prim.Native.Nat.{ℕ}
-use lib.ListN.{take}
+use Prim.Native.Nat.{ℕ, _≤_}
+use lib.ListN.{length, take}
 use denote.Ref.{now}
 use Rattle.choice.specs.Tests.{settle}
+use Rattle.regs.specs.declared.registers.Registers.{Registers}
 use Rattle.cells.specs.declared.host.HostFrame.{HostFrame}
 use Rattle.cells.specs.Host.{hostSize, hostParams}
 use Rattle.rules.specs.declared.Request.{Request}
@@ -41,7 +42,26 @@ use Rattle.face.specs.declared.state.CState.{CState}
 use Rattle.face.specs.States.{stateFrom}
 use Rattle.face.specs.Requests.{requestFrom}
 use Rattle.face_ask.specs.declared.answers.CAnswer.{CAnswer}
-use Rattle.face_ask.specs.declared.parts.CPart.{CPart}
+use Rattle.face.specs.declared.parts.CPart.{CPart}
+use Rattle.face_place.specs.declared.answers.COffset.{COffset}
+use Rattle.face_place.specs.declared.answers.CFrame.{CFrame}
+use Rattle.face_place.specs.declared.answers.CHosted.{CHosted}
+use Rattle.face_place.specs.declared.answers.CReturned.{CReturned}
+use Rattle.face_place.specs.Held.{registersHeld}
+use Rattle.face_place.specs.Args.{pushHeld, replaceHeld, hostHeld, returnHostHeld, hostFrameHeld}
+use Rattle.face_place.specs.Placed.{worldHeld}
+use Rattle.face_place.specs.Said.{numberShown, offsetShown, frameShown, restoredShown, hostedShown, returnedShown}
+use Rattle.face_place.proofs.cattlecleat_push_frame.Reads as c-push-frame
+use Rattle.face_place.proofs.cattlecleat_pop_frame.Reads as c-pop-frame
+use Rattle.face_place.proofs.cattlecleat_replace_frame.Reads as c-replace-frame
+use Rattle.face_place.proofs.cattlecleat_prepare_host_frame.Reads as c-prepare-host-frame
+use Rattle.face_place.proofs.cattlecleat_return_prepare_host_frame.Reads as c-return-prepare-host-frame
+use Rattle.face_place.proofs.cattlecleat_sync_ip.Reads as c-sync-ip
+use Rattle.face_place.proofs.cattlecleat_restore_frame.Reads as c-restore-frame
+use Rattle.face_place.proofs.cattlecleat_set.Reads as c-set
+use Rattle.face_place.proofs.cattlecleat_reset.Reads as c-reset
+use Rattle.face_place.proofs.cattlecleat_sync_registers_in_place.Reads as c-sync-registers-in-place
+use Rattle.face_place.proofs.cattlecleat_host_part_in_place.Reads as c-host-part-in-place
 use Rattle.face_ask.proofs.cattlecleat_ask.Reads as c-ask
 use Rattle.face_ask.proofs.cattlecleat_sync_registers.Reads as c-sync-registers
 use Rattle.face_ask.proofs.cattlecleat_host_part.Reads as c-host-part
@@ -97,6 +117,42 @@ pub data Heard : World → Asked → After → Type 0 where
   by-cattlecleat-host-part : (κ : _) (a : _) (r : CPart) (e : _) → c-host-part.Post κ a r e
       → Heard (worldSaid (a .0) (now (a .1 .0)) (now (a .1 .1 .0))) (HostPart (a .1 .1 .1 .0))
       (partSaid r (worldSaid (a .0) (now (a .1 .0)) (now (a .1 .1 .0))))
+  -- with the state in place: its words say it, eight of them or more by its type, with any registers behind them
+  by-cattlecleat-push-frame : (κ : _) (a : _) (r : COffset) (e : _) → c-push-frame.Post κ a r e → (regs : Registers) → 8 ≤ length (now (a .0))
+      → Heard (worldHeld (now (a .0)) regs (now (a .1 .0)) (now (a .1 .1 .0))) (Traced (Push (pushHeld (now (a .1 .1 .1 .0)))))
+      (afterOf (offsetShown r) (worldHeld (now (e .0)) regs (now (e .1 .0)) (now (e .1 .1 .0))))
+  by-cattlecleat-pop-frame : (κ : _) (a : _) (r : CFrame) (e : _) → c-pop-frame.Post κ a r e → (regs : Registers) → 8 ≤ length (now (a .0))
+      → Heard (worldHeld (now (a .0)) regs (now (a .1 .0)) (now (a .1 .1 .0))) (Traced (Pop (a .1 .1 .1 .0)))
+      (afterOf (frameShown r) (worldHeld (now (e .0)) regs (now (a .1 .0)) (now (a .1 .1 .0))))
+  by-cattlecleat-replace-frame : (κ : _) (a : _) (r : COffset) (e : _) → c-replace-frame.Post κ a r e → (regs : Registers) → 8 ≤ length (now (a .0))
+      → Heard (worldHeld (now (a .0)) regs (now (a .1 .0)) (now (a .1 .1 .0))) (Traced (Replace (replaceHeld (now (a .1 .1 .1 .0)))))
+      (afterOf (offsetShown r) (worldHeld (now (e .0)) regs (now (e .1 .0)) (now (e .1 .1 .0))))
+  by-cattlecleat-prepare-host-frame : (κ : _) (a : _) (r : CHosted) (e : _) → c-prepare-host-frame.Post κ a r e → (regs : Registers) → 8 ≤ length (now (a .0))
+      → Heard (worldHeld (now (a .0)) regs (now (a .1 .0)) (now (a .1 .1 .0))) (Traced (Host (hostHeld (now (a .1 .1 .1 .0)))))
+      (afterOf (hostedShown r) (worldHeld (now (e .0)) regs (now (e .1 .0)) (now (e .1 .1 .0))))
+  by-cattlecleat-return-prepare-host-frame : (κ : _) (a : _) (r : CReturned) (e : _) → c-return-prepare-host-frame.Post κ a r e → (regs : Registers)
+      → 8 ≤ length (now (a .0))
+      → Heard (worldHeld (now (a .0)) regs (now (a .1 .0)) (now (a .1 .1 .0))) (Traced (ReturnHost (returnHostHeld (now (a .1 .1 .1 .0)))))
+      (afterOf (returnedShown r) (worldHeld (now (e .0)) regs (now (a .1 .0)) (now (e .1 .1 .0))))
+  by-cattlecleat-sync-ip : (κ : _) (a : _) (r : COffset) (e : _) → c-sync-ip.Post κ a r e → (regs : Registers) → 8 ≤ length (now (a .0))
+      → Heard (worldHeld (now (a .0)) regs (now (a .1 .0)) (now (a .1 .1 .0))) (Traced (Sync (a .1 .1 .1 .0)))
+      (afterOf (offsetShown r) (worldHeld (now (a .0)) regs (now (e .1 .0)) (now (a .1 .1 .0))))
+  by-cattlecleat-restore-frame : (κ : _) (a : _) (r : CFrame) (e : _) → c-restore-frame.Post κ a r e → (regs : Registers) → 8 ≤ length (now (a .0))
+      → Heard (worldHeld (now (a .0)) regs (now (a .1 .0)) (now (a .1 .1 .0))) (Traced Restore)
+      (afterOf (restoredShown regs r) (worldHeld (now (a .0)) regs (now (a .1 .0)) (now (a .1 .1 .0))))
+  by-cattlecleat-set : (κ : _) (a : _) (r : COffset) (e : _) → c-set.Post κ a r e → (regs : Registers) → 8 ≤ length (now (a .0))
+      → Heard (worldHeld (now (a .0)) regs (now (a .1 .0)) (now (a .1 .1 .0))) (Traced (Set (a .1 .1 .1 .0) (a .1 .1 .1 .1 .0)))
+      (afterOf (offsetShown r) (worldHeld (now (a .0)) regs (now (a .1 .0)) (now (e .1 .1 .0))))
+  -- and with its registers, in three words more
+  by-cattlecleat-reset : (κ : _) (a : _) (r : ℕ) (e : _) → c-reset.Post κ a r e → 11 ≤ length (now (a .0))
+      → Heard (worldHeld (now (a .0)) (registersHeld (now (a .0)) 8) (now (a .1 .0)) (now (a .1 .1 .0))) (Traced Reset)
+      (afterOf (numberShown r) (worldHeld (now (e .0)) (registersHeld (now (e .0)) 8) (now (a .1 .0)) (now (a .1 .1 .0))))
+  by-cattlecleat-sync-registers-in-place : (κ : _) (a : _) (r : ℕ) (e : _) → c-sync-registers-in-place.Post κ a r e → 11 ≤ length (now (a .0))
+      → Heard (worldHeld (now (a .0)) (registersHeld (now (a .0)) 8) (now (a .1 .0)) (now (a .1 .1 .0))) (SyncRegs (registersHeld (now (a .1 .1 .1 .0)) 0))
+      (afterOf (numberShown r) (worldHeld (now (e .0)) (registersHeld (now (e .0)) 8) (now (a .1 .0)) (now (a .1 .1 .0))))
+  by-cattlecleat-host-part-in-place : (κ : _) (a : _) (r : CPart) (e : _) → c-host-part-in-place.Post κ a r e → (regs : Registers)
+      → Heard (worldHeld (now (a .0)) regs (now (a .1 .0)) (now (a .1 .1 .0))) (HostPart (hostFrameHeld (now (a .1 .1 .1 .0))))
+      (partSaid r (worldHeld (now (a .0)) regs (now (a .1 .0)) (now (a .1 .1 .0))))
 
 -- ---- `call_host`, with a host's frame
 

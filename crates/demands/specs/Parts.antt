@@ -8,6 +8,7 @@ use mathlib.Core.List.{List}
 use Prim.Native.Nat.{ℕ, _+_, _≤_, _<_}
 use lib.ListN.{length}
 use denote.Ref.{ptr, now}
+use Rattle.regs.specs.declared.registers.Registers.{Registers}
 use Rattle.cells.specs.Host.{hostSize, cellPlace}
 use Rattle.cells.specs.declared.host.HostFrame.{HostFrame}
 use Rattle.rules.specs.declared.Asked.{Asked}
@@ -16,7 +17,10 @@ use Rattle.rules.specs.Answers.{After}
 use Rattle.rules.specs.Hosts.{partCells, partPlace}
 use Rattle.rules.specs.Returning.{Inside}
 use Rattle.stack_hosts.proofs.host_results.Reads as host-results
-use Rattle.face_ask.specs.declared.parts.CPart.{CPart}
+use Rattle.face.specs.declared.parts.CPart.{CPart}
+use Rattle.face_place.specs.Args.{hostFrameHeld}
+use Rattle.face_place.specs.Placed.{worldHeld}
+use Rattle.face_place.proofs.cattlecleat_host_part_in_place.Reads as c-host-part-in-place
 use Rattle.face_ask.proofs.cattlecleat_host_part.Reads as c-host-part
 use Rattle.demands.specs.Heard.{worldSaid, Heard, routineWrites}
 
@@ -44,9 +48,12 @@ LentAsTold w f r =
     × (r .results ≡ length (partCells w f (hostSize (f .params) (f .results))))
     × (0 < r .results → r .offset ≡ partPlace w f)
 
+abbrev pub ToldWithin : World → HostFrame → CPart → Type 0
+ToldWithin w f r = (r .params ≤ r .results) × (r .offset + r .results ≤ length (w .cells)) × (r .number ≡ 0 → LentAsTold w f r)
+
 abbrev pub PartsTold : Type 0
 PartsTold =
-    (κ : _) (a : _) (r : CPart) (e : _) → c-host-part.Post κ a r e
-    → (r .params ≤ r .results)
-    × (r .offset + r .results ≤ length (now (a .1 .1 .0)))
-    × (r .number ≡ 0 → LentAsTold (worldSaid (a .0) (now (a .1 .0)) (now (a .1 .1 .0))) (a .1 .1 .1 .0) r)
+    ((κ : _) (a : _) (r : CPart) (e : _) → c-host-part.Post κ a r e
+    → ToldWithin (worldSaid (a .0) (now (a .1 .0)) (now (a .1 .1 .0))) (a .1 .1 .1 .0) r)
+    × ((κ : _) (a : _) (r : CPart) (e : _) → c-host-part-in-place.Post κ a r e → (regs : Registers)
+    → ToldWithin (worldHeld (now (a .0)) regs (now (a .1 .0)) (now (a .1 .1 .0))) (hostFrameHeld (now (a .1 .1 .1 .0))) r)

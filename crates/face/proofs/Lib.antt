@@ -1,2 +1,4 @@
 pub mod Handed
+pub mod Lent
 pub mod Settled
+pub mod Within

@@ -1,4 +1,2 @@
-pub mod Lent
 pub mod Settled
 pub mod Telling
-pub mod Within

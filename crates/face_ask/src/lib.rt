@@ -8,5 +8,4 @@ pub use answers::CAnswer;
 pub use asking::cattlecleat_ask;
 pub use asking::cattlecleat_open;
 pub use asking::cattlecleat_sync_registers;
-pub use parts::CPart;
 pub use parts::cattlecleat_host_part;

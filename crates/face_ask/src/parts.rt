@@ -1,23 +1,13 @@
-// A host's part of the cells, by offset and length: its parameters and the cells for its results begin at one place.
+// A host's part of the cells, with the state by value.
 ghost use mathlib.Core.Path.{_≡_};
 ghost use Rattle.rules.specs.World.{worldOf};
 ghost use Rattle.face.specs.States.{stateFrom};
-ghost use Rattle.face_ask.specs.Parts.{partWith, frameLent, partTold};
+ghost use Rattle.face.specs.Parts.{partTold};
 use cells::HostFrame;
-use cells::host_size;
+use face::CPart;
 use face::CState;
+use face::part_told;
 use face::state_from;
-use rules::Judgement;
-use stack::refusal_number;
-use stack_hosts::judge_host_part;
-
-#[repr(C)]
-pub struct CPart {
-    pub number: u64,
-    pub offset: usize,
-    pub params: usize,
-    pub results: usize,
-}
 
 // Where a host's part lies. 9, 11. An empty part is at 0.
 #[no_mangle]
@@ -29,30 +19,5 @@ pub extern "C" fn cattlecleat_host_part(
 ) -> CPart
     ensures { λ r. ⌜ r ≡ partTold (worldOf (stateFrom s) (now (words .entry)) (now (cells .entry))) frame ⌝ }
 {
-    match judge_host_part(state_from(s), words, cells, frame) {
-        Judgement::Refuse(why) => part(refusal_number(why), 0, 0, 0),
-        Judgement::Accept(_) => frame_lent(frame),
-    }
-}
-
-fn frame_lent(frame: HostFrame) -> CPart
-    ensures { λ r. ⌜ r ≡ frameLent frame ⌝ }
-{
-    let params = frame.params;
-    let size = host_size(params, frame.results);
-    if size == 0 {
-        return part(0, 0, 0, 0);
-    }
-    part(0, frame.start, params as usize, size)
-}
-
-fn part(number: u64, offset: usize, params: usize, results: usize) -> CPart
-    ensures { λ r. ⌜ r ≡ partWith number offset params results ⌝ }
-{
-    CPart {
-        number,
-        offset,
-        params,
-        results,
-    }
+    part_told(state_from(s), words, cells, frame)
 }

@@ -1,6 +1,6 @@
 //! One method per request of a stack, named as in the Rust module that this replaces, and what each hands back.
 use crate::raw::{self, HostFrame};
-use crate::{HostArgs, PushArgs, Refusal, Registers, ReplaceArgs, Request, ReturnHostArgs, Stack};
+use crate::{HostArgs, PushArgs, Refusal, Registers, ReplaceArgs, ReturnHostArgs, Stack};
 
 /// Where a return leads.
 #[derive(Clone, Copy, Debug, PartialEq, Eq, Hash)]
@@ -49,15 +49,14 @@ pub struct Restored {
     pub regs: Registers,
 }
 
-/// Where an accepted return leads, by the archive's numbers.
-fn popped(answer: &raw::Answer) -> Popped {
-    match answer.number {
-        1 => Popped::Last,
-        _ => Popped::Returned {
-            ip: answer.ip,
-            start: answer.offset,
-            instance: answer.instance,
-        },
+impl Popped {
+    /// Where an accepted return leads, by the archive's numbers.
+    #[inline]
+    fn by(number: u64, ip: u64, start: usize, instance: u64) -> Self {
+        match number {
+            1 => Self::Last,
+            _ => Self::Returned { ip, start, instance },
+        }
     }
 }
 
@@ -88,7 +87,8 @@ impl<W: AsRef<[u64]> + AsMut<[u64]>, C: AsRef<[u64]> + AsMut<[u64]>> Stack<W, C>
     /// ```
     #[inline]
     pub fn push_frame(&mut self, args: PushArgs) -> Result<usize, Refusal> {
-        self.ask(args).map(|answer| answer.offset)
+        let answer = raw::push_frame(&mut self.state, self.words.as_mut(), self.cells.as_mut(), &args.into());
+        Refusal::check(answer.number).map(|()| answer.offset)
     }
 
     /// Returns from the top frame: its debt, where it has one, becomes current again.
@@ -106,7 +106,8 @@ impl<W: AsRef<[u64]> + AsMut<[u64]>, C: AsRef<[u64]> + AsMut<[u64]>> Stack<W, C>
     /// ```
     #[inline]
     pub fn pop_frame(&mut self, instance: u64) -> Result<Popped, Refusal> {
-        self.ask(Request::Pop(instance)).map(|answer| popped(&answer))
+        let answer = raw::pop_frame(&mut self.state, self.words.as_ref(), self.cells.as_ref(), instance);
+        Refusal::check(answer.number).map(|()| Popped::by(answer.number, answer.ip, answer.offset, answer.instance))
     }
 
     /// Makes a tail call: the callee takes over the top frame, and its parameters are copied from the head to the frame's start. Hands back
@@ -125,7 +126,8 @@ impl<W: AsRef<[u64]> + AsMut<[u64]>, C: AsRef<[u64]> + AsMut<[u64]>> Stack<W, C>
     /// ```
     #[inline]
     pub fn replace_frame(&mut self, args: ReplaceArgs) -> Result<usize, Refusal> {
-        self.ask(args).map(|answer| answer.offset)
+        let answer = raw::replace_frame(&mut self.state, self.words.as_mut(), self.cells.as_mut(), &args.into());
+        Refusal::check(answer.number).map(|()| answer.offset)
     }
 
     /// Prepares the call of a host's function: a given ip is stored, and the cells reach to the end of the host's frame.
@@ -133,7 +135,8 @@ impl<W: AsRef<[u64]> + AsMut<[u64]>, C: AsRef<[u64]> + AsMut<[u64]>> Stack<W, C>
     /// Refusals, in this order: 9, 4, 2, 3.
     #[inline]
     pub fn prepare_host_frame(&mut self, args: HostArgs) -> Result<HostCall, Refusal> {
-        self.ask(args).map(|answer| HostCall {
+        let answer = raw::prepare_host_frame(&mut self.state, self.words.as_mut(), self.cells.as_mut(), &args.into());
+        Refusal::check(answer.number).map(|()| HostCall {
             start: answer.offset,
             frame: answer.host,
         })
@@ -156,8 +159,9 @@ impl<W: AsRef<[u64]> + AsMut<[u64]>, C: AsRef<[u64]> + AsMut<[u64]>> Stack<W, C>
     /// ```
     #[inline]
     pub fn return_prepare_host_frame(&mut self, args: ReturnHostArgs) -> Result<ReturnHostCall, Refusal> {
-        self.ask(args).map(|answer| ReturnHostCall {
-            popped: popped(&answer),
+        let answer = raw::return_prepare_host_frame(&mut self.state, self.words.as_ref(), self.cells.as_mut(), &args.into());
+        Refusal::check(answer.number).map(|()| ReturnHostCall {
+            popped: Popped::by(answer.number, answer.ip, answer.offset, answer.instance),
             frame: answer.host,
         })
     }
@@ -167,7 +171,8 @@ impl<W: AsRef<[u64]> + AsMut<[u64]>, C: AsRef<[u64]> + AsMut<[u64]>> Stack<W, C>
     /// Refusals, in this order: 9, 4.
     #[inline]
     pub fn sync_ip(&mut self, ip: u64) -> Result<usize, Refusal> {
-        self.ask(Request::Sync(ip)).map(|answer| answer.offset)
+        let answer = raw::sync_ip(&self.state, self.words.as_mut(), self.cells.as_ref(), ip);
+        Refusal::check(answer.number).map(|()| answer.offset)
     }
 
     /// What is needed to go on in the top frame. Nothing changes.
@@ -187,12 +192,12 @@ impl<W: AsRef<[u64]> + AsMut<[u64]>, C: AsRef<[u64]> + AsMut<[u64]>> Stack<W, C>
     /// ```
     #[inline]
     pub fn restore_frame(&mut self) -> Result<Restored, Refusal> {
-        let answer = self.ask(Request::Restore)?;
-        Ok(Restored {
+        let answer = raw::restore_frame(&self.state, self.words.as_ref(), self.cells.as_ref());
+        Refusal::check(answer.number).map(|()| Restored {
             ip: answer.ip,
             start: answer.offset,
             instance: answer.instance,
-            regs: answer.regs,
+            regs: self.state.regs,
         })
     }
 
@@ -201,7 +206,7 @@ impl<W: AsRef<[u64]> + AsMut<[u64]>, C: AsRef<[u64]> + AsMut<[u64]>> Stack<W, C>
     /// Refusal: 9.
     #[inline]
     pub fn reset(&mut self) -> Result<(), Refusal> {
-        self.ask(Request::Reset).map(|_| ())
+        Refusal::check(raw::reset(&mut self.state, self.words.as_ref(), self.cells.as_ref()))
     }
 
     /// Writes one cell at the top start plus the head, and hands back its index.
@@ -209,7 +214,8 @@ impl<W: AsRef<[u64]> + AsMut<[u64]>, C: AsRef<[u64]> + AsMut<[u64]>> Stack<W, C>
     /// Refusals, in this order: 9, 4, 7.
     #[inline]
     pub fn set(&mut self, head: u16, cell: u64) -> Result<usize, Refusal> {
-        self.ask(Request::Set(head, cell)).map(|answer| answer.offset)
+        let answer = raw::set(&self.state, self.words.as_ref(), self.cells.as_mut(), head, cell);
+        Refusal::check(answer.number).map(|()| answer.offset)
     }
 
     /// Stores all three registers, bit for bit.
@@ -217,8 +223,7 @@ impl<W: AsRef<[u64]> + AsMut<[u64]>, C: AsRef<[u64]> + AsMut<[u64]>> Stack<W, C>
     /// Refusal: 9.
     #[inline]
     pub fn sync_regs(&mut self, regs: Registers) -> Result<(), Refusal> {
-        let answer = raw::sync_registers(self.state, self.words.as_ref(), self.cells.as_ref(), regs);
-        self.state = answer.state;
-        Refusal::check(answer.number)
+        let number = raw::sync_registers_in_place(&mut self.state, self.words.as_ref(), self.cells.as_ref(), &regs);
+        Refusal::check(number)
     }
 }

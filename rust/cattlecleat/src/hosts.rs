@@ -5,7 +5,7 @@ use crate::{Refusal, Stack};
 impl<W: AsRef<[u64]>, C: AsRef<[u64]>> Stack<W, C> {
     /// Where a host's cells lie. Refusals, in this order: 9, 11.
     fn host_part(&self, frame: HostFrame) -> Result<Part, Refusal> {
-        let part = raw::host_part(self.state, self.words.as_ref(), self.cells.as_ref(), frame);
+        let part = raw::host_part_in_place(&self.state, self.words.as_ref(), self.cells.as_ref(), &frame);
         Refusal::check(part.number).map(|()| part)
     }
 

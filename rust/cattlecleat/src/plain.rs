@@ -2,6 +2,7 @@
 use crate::{HostArgs, PushArgs, Refusal, ReplaceArgs, Request, ReturnHostArgs, raw};
 
 /// A flag and the number beside it, as the archive takes them.
+#[inline]
 fn given(number: Option<u64>) -> (u64, u64) {
     (u64::from(number.is_some()), number.unwrap_or(0))
 }
@@ -9,6 +10,67 @@ fn given(number: Option<u64>) -> (u64, u64) {
 /// The number beside a flag, where it is given.
 fn number_if(flag: u64, number: u64) -> Option<u64> {
     (flag != 0).then_some(number)
+}
+
+impl From<PushArgs> for raw::Push {
+    #[inline]
+    fn from(q: PushArgs) -> Self {
+        let (caller_flag, caller) = given(q.caller);
+        let (instance_flag, instance) = given(q.instance);
+        Self {
+            head: q.head,
+            params: q.params,
+            locals: q.locals,
+            slots: q.slots,
+            caller_flag,
+            caller,
+            callee: q.callee,
+            instance_flag,
+            instance,
+        }
+    }
+}
+
+impl From<ReplaceArgs> for raw::Replace {
+    #[inline]
+    fn from(q: ReplaceArgs) -> Self {
+        let (instance_flag, instance) = given(q.instance);
+        Self {
+            head: q.head,
+            params: q.params,
+            locals: q.locals,
+            slots: q.slots,
+            callee: q.callee,
+            instance_flag,
+            instance,
+        }
+    }
+}
+
+impl From<HostArgs> for raw::Host {
+    #[inline]
+    fn from(q: HostArgs) -> Self {
+        let (caller_flag, caller) = given(q.caller);
+        Self {
+            head: q.head,
+            params: q.params,
+            results: q.results,
+            caller_flag,
+            caller,
+        }
+    }
+}
+
+impl From<ReturnHostArgs> for raw::ReturnHost {
+    #[inline]
+    fn from(q: ReturnHostArgs) -> Self {
+        Self {
+            head: q.head,
+            params: q.params,
+            results: q.results,
+            instance: q.instance,
+        }
+    }
 }
 
 impl From<PushArgs> for raw::Request {

@@ -1,8 +1,11 @@
-//! The archive's functions as they are: on numbers, slices and structs of numbers, with the state by value in and out.
+//! The archive's functions as they are: on numbers, slices and structs of numbers, with the state by value in and out, or in place.
 //!
 //! Every argument gets an answer, so nothing here is `unsafe` to call: what the C face asks of its caller (true, aligned pointers and
-//! lengths, and that what is written overlaps nothing) is what slices hold by themselves. Two `&[u64]` of one call may overlap, or be the
-//! same: [`open`], [`sync_registers`] and [`host_part`] write to neither, and answer by what each holds.
+//! lengths, and that what is written overlaps nothing) is what slices and references hold by themselves. Two `&[u64]` of one call may
+//! overlap, or be the same: [`open`], [`sync_registers`], [`host_part`] and others write to neither, and answer by what each holds.
+//!
+//! In place ([`push_frame`] and the others that take a `&mut State` or a `&State`) a request answers the same numbers as by value
+//! ([`ask`]), several times as fast, and leaves a state that says the same. It writes of it only what it moves, and a refusal nothing.
 //!
 //! [`Stack`](crate::Stack) is the comfortable way; this is the way for a host that keeps the state itself, and for whoever compares every
 //! number.
@@ -10,6 +13,12 @@
 //! A flag of 0 reads as none whatever the number beside it, any other as given. A refusal hands flags and numbers back as they came, and
 //! so does a replay what the trace left as it was; else a flag comes back as 0 or 1, with 0 beside 0.
 //! What changes registers in place are methods of [`Registers`].
+
+mod place;
+
+pub use place::{Frame, Host, Hosted, Offset, Push, Replace, ReturnHost, Returned};
+pub use place::{host_part_in_place, pop_frame, prepare_host_frame, push_frame, replace_frame, reset, restore_frame};
+pub use place::{return_prepare_host_frame, set, sync_ip, sync_registers_in_place};
 
 /// The three registers: an integer, an f32 and an f64, kept bit for bit.
 #[repr(C)]

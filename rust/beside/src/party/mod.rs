@@ -4,6 +4,8 @@
 pub mod convert;
 #[cfg(target_arch = "x86_64")]
 mod ours;
+#[cfg(target_arch = "x86_64")]
+mod place;
 mod rust;
 mod table;
 
@@ -53,7 +55,11 @@ pub type Opened = Result<Box<dyn Party>, u64>;
 pub fn all(opening: &Opening) -> Vec<(&'static str, Opened)> {
     let rust = (Rust::NAME, Rust::open(opening));
     #[cfg(target_arch = "x86_64")]
-    return vec![(ours::Ours::NAME, ours::Ours::open(opening)), rust];
+    return ours::Face::ALL
+        .into_iter()
+        .map(|face| (face.name(), ours::Ours::open(face, opening)))
+        .chain([rust])
+        .collect();
     #[cfg(not(target_arch = "x86_64"))]
     return vec![rust];
 }

@@ -1,6 +1,7 @@
--- `face_ask::parts::cattlecleat_host_part` meets its contract. Assumes nothing.
+-- `face_ask::parts::cattlecleat_host_part` meets its contract: that of the state that the numbers say. Assumes nothing.
 use borrow.Author.Needs.{needs}
-use Rattle.face_ask.proofs.Lent.{refused-told, accepted-told}
+use mathlib.Core.Path.{refl, _∙_}
+use Rattle.face.proofs.Lent.{part-at}
 use Rattle.face_ask.proofs.parts.cattlecleat_host_part.Statement.{statement}
 use Rattle.face_ask.proofs.parts.cattlecleat_host_part.Tie as tie
 
@@ -10,13 +11,4 @@ cattlecleat-host-part-spec =
     (tie.spec
     (λ c κs. search needs)
     (λ c κs. search needs)
-    (λ c. search needs)
-    (λ c κs. search needs)
-    (λ c κs. search needs)
-    (λ c. search needs)
-    (λ c κs. search needs)
-    (λ c. refused-told _ _ (c .before .before .before .before .before .before .state-from .ensures) _ _ _ _ _ _ _
-    (c .before .before .before .before .before .judge-host-part .ensures) (c .before .before .before .why .given .1)
-    (c .before .refusal-number .ensures) (c .part .ensures))
-    (λ c. accepted-told _ _ (c .before .before .before .before .state-from .ensures) _ _ _ _ _ _
-    (c .before .before .before .judge-host-part .ensures) (c .before .enum-told .given .1) (c .frame-lent .ensures)))
+    (λ c. c .part-told .ensures ∙ part-at _ _ (c .before .state-from .ensures) _ _ _ _ refl))

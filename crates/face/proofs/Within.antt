@@ -19,9 +19,9 @@ use Rattle.rules.specs.Hosts.{partTests, partCells, partPlace}
 use Rattle.rules.proofs.GoodStates.{GoodState, good-state}
 use Rattle.rules.proofs.Judgements.{numbered}
 use Rattle.stack_hosts.proofs.Lendings.{lent-cells}
-use Rattle.face_ask.specs.declared.parts.CPart.{CPart}
-use Rattle.face_ask.specs.Parts.{partWith, partRefused, sizeOf, frameLent, partTold, PartWithin, PartIsLent}
-use Rattle.face_ask.proofs.Lent.{none-lent, some-lent}
+use Rattle.face.specs.declared.parts.CPart.{CPart}
+use Rattle.face.specs.Parts.{partWith, partRefused, sizeOf, frameLent, partTold, PartWithin, PartIsLent}
+use Rattle.face.proofs.Lent.{none-lent, some-lent}
 
 -- an accepted frame is lent nothing, or as many cells as its size
 data Lends (frame : HostFrame) : Type 0 where

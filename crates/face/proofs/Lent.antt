@@ -16,8 +16,8 @@ use Rattle.rules.specs.World.{World, worldOf}
 use Rattle.rules.specs.Answers.{refusalNumber, shownJudgement, judged}
 use Rattle.rules.specs.Hosts.{partTests, partRoom}
 use Rattle.rules.proofs.Judgements.{numbered, judged-refused, judged-accepted}
-use Rattle.face_ask.specs.declared.parts.CPart.{CPart}
-use Rattle.face_ask.specs.Parts.{partWith, partRefused, sizeOf, frameLent, partTold}
+use Rattle.face.specs.declared.parts.CPart.{CPart}
+use Rattle.face.specs.Parts.{partWith, partRefused, sizeOf, frameLent, partTold}
 
 pub none-lent : (frame : HostFrame) (n : ℕ) → n ≡ sizeOf frame → n ≡ 0 → partWith 0 0 0 0 ≡ frameLent frame
 unfolding choose frameLent
@@ -40,17 +40,15 @@ module _ (w : World) (frame : HostFrame) where
   unfolding partTold
   told-accepted r e = sym (judged-accepted partRefused (frameLent frame) (partTests w frame) (numbered w (HostPart frame)) (partRoom w frame) r e .0)
 
--- of a state that the numbers say, with the judgement known
-pub refused-told : (s t : State) → s ≡ t → (ws cs : List ℕ) (frame : HostFrame) (j : Judgement) (why : Refusal) (n : ℕ) (p : CPart)
-    → shownJudgement j ≡ judged (partTests (worldOf s ws cs) frame) (partRoom (worldOf s ws cs) frame) → j ≡ Refuse why
-    → n ≡ refusalNumber why → p ≡ partWith n 0 0 0
-    → p ≡ partTold (worldOf t ws cs) frame
-refused-told s t same ws cs frame j why n p shows refuses numbers tells =
-    tells ∙ ap partRefused numbers ∙ told-refused (worldOf s ws cs) frame why (ap shownJudgement (sym refuses) ∙ shows)
-    ∙ ap (λ x. partTold (worldOf x ws cs) frame) same
+-- with the judgement known
+module _ (w : World) (frame : HostFrame) (j : Judgement) (shows : shownJudgement j ≡ judged (partTests w frame) (partRoom w frame)) (p : CPart) where
+  pub refused-told : (why : Refusal) (n : ℕ) → j ≡ Refuse why → n ≡ refusalNumber why → p ≡ partWith n 0 0 0 → p ≡ partTold w frame
+  refused-told why n refuses numbers tells = tells ∙ ap partRefused numbers ∙ told-refused w frame why (ap shownJudgement (sym refuses) ∙ shows)
 
-pub accepted-told : (s t : State) → s ≡ t → (ws cs : List ℕ) (frame : HostFrame) (j : Judgement) (r : Room) (p : CPart)
-    → shownJudgement j ≡ judged (partTests (worldOf s ws cs) frame) (partRoom (worldOf s ws cs) frame) → j ≡ Accept r → p ≡ frameLent frame
-    → p ≡ partTold (worldOf t ws cs) frame
-accepted-told s t same ws cs frame j r p shows accepts tells =
-    tells ∙ told-accepted (worldOf s ws cs) frame r (ap shownJudgement (sym accepts) ∙ shows) ∙ ap (λ x. partTold (worldOf x ws cs) frame) same
+  pub accepted-told : (r : Room) → j ≡ Accept r → p ≡ frameLent frame → p ≡ partTold w frame
+  accepted-told r accepts tells = tells ∙ told-accepted w frame r (ap shownJudgement (sym accepts) ∙ shows)
+
+-- ---- of a state and a frame that numbers say
+pub part-at : (s s′ : State) → s ≡ s′ → (words cells : List ℕ) (f f′ : HostFrame) → f ≡ f′
+    → partTold (worldOf s words cells) f ≡ partTold (worldOf s′ words cells) f′
+part-at s s′ read words cells f f′ meant = λ i. partTold (worldOf (read i) words cells) (meant i)

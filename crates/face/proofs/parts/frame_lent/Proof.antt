@@ -1,10 +1,10 @@
--- `face_ask::parts::frame_lent` meets its contract. Assumes nothing.
+-- `face::parts::frame_lent` meets its contract. Assumes nothing.
 use borrow.Author.Needs.{needs}
 use mathlib.Core.Path.{_∙_}
 use borrow.Author.Tests.{ne-eqb}
-use Rattle.face_ask.proofs.Lent.{none-lent, some-lent}
-use Rattle.face_ask.proofs.parts.frame_lent.Statement.{statement}
-use Rattle.face_ask.proofs.parts.frame_lent.Tie as tie
+use Rattle.face.proofs.Lent.{none-lent, some-lent}
+use Rattle.face.proofs.parts.frame_lent.Statement.{statement}
+use Rattle.face.proofs.parts.frame_lent.Tie as tie
 
 pub frame-lent-spec : {M : Type 1} → statement M
 frame-lent-spec =

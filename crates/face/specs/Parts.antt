@@ -14,7 +14,7 @@ use Rattle.cells.specs.declared.host.HostFrame.{HostFrame}
 use Rattle.cells.specs.Host.{hostSize}
 use Rattle.rules.specs.World.{World}
 use Rattle.rules.specs.Hosts.{partTests, partCells, partPlace}
-use Rattle.face_ask.specs.declared.parts.CPart.{CPart}
+use Rattle.face.specs.declared.parts.CPart.{CPart}
 
 abbrev pub partWith : (number offset params results : ℕ) → CPart
 partWith number offset params results = record { number = number; offset = offset; params = params; results = results }

@@ -1,0 +1,15 @@
+-- `face_place::requests::return_host_held` meets its contract. Assumes nothing.
+use borrow.Author.Needs.{needs}
+use Rattle.face_place.proofs.requests.return_host_held.Statement.{statement}
+use Rattle.face_place.proofs.requests.return_host_held.Tie as tie
+
+pub return-host-held-spec : {M : Type 1} → statement M
+return-host-held-spec =
+    tie.close
+    (tie.spec
+    (λ c. search needs)
+    (λ c κs. search needs)
+    (λ c κs. search needs)
+    (λ c κs. search needs)
+    (λ c. search needs)
+    (λ c. cc))

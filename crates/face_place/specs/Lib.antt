@@ -1,0 +1,4 @@
+pub mod Held
+pub mod Args
+pub mod Placed
+pub mod Said

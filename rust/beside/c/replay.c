@@ -58,7 +58,7 @@ INLINE uint64_t turn_push(world *w, const record *r, uint64_t left) {
     if ((r->front & ~(KIND | CALLER_GIVEN | INSTANCE_GIVEN | HEAD | PARAMS | LOCALS)) | (r->counts & ~SLOTS)
         | unless(r, CALLER_GIVEN, r->caller) | unless(r, INSTANCE_GIVEN, r->instance))
         return 1;
-    floor_push q = {head(r), params(r), locals(r), slots(r), r->front & CALLER_GIVEN, r->caller, r->callee, r->front & INSTANCE_GIVEN,
+    cattlecleat_push q = {head(r), params(r), locals(r), slots(r), r->front & CALLER_GIVEN, r->caller, r->callee, r->front & INSTANCE_GIVEN,
                     r->instance};
     plan p = judge_push(&w->s, w->words, &q);
     uint64_t cost = p.number ? 1 : push_cost(&q);
@@ -80,7 +80,7 @@ INLINE uint64_t turn_replace(world *w, const record *r, uint64_t left) {
     if ((r->front & ~(KIND | INSTANCE_GIVEN | HEAD | PARAMS | LOCALS)) | (r->counts & ~SLOTS) | r->caller
         | unless(r, INSTANCE_GIVEN, r->instance))
         return 1;
-    floor_replace q = {head(r), params(r), locals(r), slots(r), r->callee, r->front & INSTANCE_GIVEN, r->instance};
+    cattlecleat_replace q = {head(r), params(r), locals(r), slots(r), r->callee, r->front & INSTANCE_GIVEN, r->instance};
     plan p = judge_replace(&w->s, w->words, &q);
     uint64_t cost = p.number ? 1 : replace_cost(&q);
     if (p.number == 0 && cost <= left)
@@ -92,7 +92,7 @@ INLINE uint64_t turn_host(world *w, const record *r, uint64_t left) {
     if ((r->front & ~(KIND | CALLER_GIVEN | HEAD | PARAMS)) | (r->counts & ~RESULTS) | unless(r, CALLER_GIVEN, r->caller) | r->callee
         | r->instance)
         return 1;
-    floor_host q = {head(r), params(r), results(r), 0, r->front & CALLER_GIVEN, r->caller};
+    cattlecleat_host q = {head(r), params(r), results(r), r->front & CALLER_GIVEN, r->caller};
     plan p = judge_host(&w->s, w->words, &q);
     if (p.number == 0 && left > 0)
         step_host(&w->s, w->words, &q, p);
@@ -102,7 +102,7 @@ INLINE uint64_t turn_host(world *w, const record *r, uint64_t left) {
 INLINE uint64_t turn_return_host(world *w, const record *r, uint64_t left) {
     if (((r->front & ~(HEAD | PARAMS)) ^ (CATTLECLEAT_RETURN_HOST | INSTANCE_GIVEN)) | (r->counts & ~RESULTS) | r->caller | r->callee)
         return 1;
-    floor_return_host q = {head(r), params(r), results(r), 0, r->instance};
+    cattlecleat_return_host q = {head(r), params(r), results(r), r->instance};
     plan p = judge_return_host(&w->s, w->words, &q);
     uint64_t cost = p.number ? 1 : return_host_cost(&q);
     if (p.number == 0 && cost <= left)
@@ -115,7 +115,7 @@ INLINE uint64_t turn_sync(world *w, const record *r, uint64_t left) {
     if ((r->front ^ CATTLECLEAT_SYNC) | r->counts | r->callee | r->instance)
         return 1;
     if (w->s.count > 0 && judge_top(&w->s, w->words).number == 0 && left > 0)
-        top_row(&w->s, w->words)[IP] = r->caller;
+        w->words[top_at(&w->s) + IP] = r->caller;
     return 1;
 }
 

@@ -36,16 +36,16 @@ INLINE int is_broken_row(const uint64_t *row, size_t len) {
     return row[START] > len || row[DEBT_FLAG] > 1 || (row[DEBT_FLAG] == 0 && row[DEBT] != 0);
 }
 
-/* The newest frame, where there is one. */
-INLINE uint64_t *top_row(const cattlecleat_state *s, uint64_t *words) {
-    return words + FRAME_WORDS * (s->count - 1);
+/* Where the newest frame lies in the words, where there is one. */
+INLINE size_t top_at(const cattlecleat_state *s) {
+    return FRAME_WORDS * (s->count - 1);
 }
 
 /* The top start, 0 without frames; 9. */
-INLINE plan judge_top(const cattlecleat_state *s, uint64_t *words) {
+INLINE plan judge_top(const cattlecleat_state *s, const uint64_t *words) {
     if (s->count == 0)
         return (plan){0, 0, s->len};
-    const uint64_t *top = top_row(s, words);
+    const uint64_t *top = words + top_at(s);
     return is_broken_row(top, s->len) ? refused(9) : (plan){0, top[START], s->len};
 }
 
@@ -86,7 +86,7 @@ INLINE void copy(uint64_t *cells, size_t from, size_t to, size_t count) {
 
 /* ---- push: 9, 2 (depth), 4 or 6, 5, 2, 3 */
 
-INLINE plan judge_push(const cattlecleat_state *s, uint64_t *words, const floor_push *q) {
+INLINE plan judge_push(const cattlecleat_state *s, const uint64_t *words, const cattlecleat_push *q) {
     plan top = judge_top(s, words);
     if (top.number)
         return top;
@@ -102,11 +102,11 @@ INLINE plan judge_push(const cattlecleat_state *s, uint64_t *words, const floor_
     return judge_growth(s, start, start + q->slots);
 }
 
-INLINE uint64_t push_cost(const floor_push *q) {
+INLINE uint64_t push_cost(const cattlecleat_push *q) {
     return 1 + (uint64_t)(q->locals - q->params);
 }
 
-INLINE void step_push(cattlecleat_state *s, uint64_t *words, uint64_t *cells, const floor_push *q, plan p) {
+INLINE void step_push(cattlecleat_state *s, uint64_t *words, uint64_t *cells, const cattlecleat_push *q, plan p) {
     uint64_t *row = words + FRAME_WORDS * s->count;
     int owes = s->current_flag && q->instance_flag && s->current != q->instance;
     if (q->caller_flag)
@@ -127,31 +127,31 @@ INLINE void step_push(cattlecleat_state *s, uint64_t *words, uint64_t *cells, co
 /* ---- pop: 9, 4 */
 
 /* The top start, for return-host. Without frames there is no row to be broken. */
-INLINE plan judge_pop(const cattlecleat_state *s, uint64_t *words) {
+INLINE plan judge_pop(const cattlecleat_state *s, const uint64_t *words) {
     if (s->count == 0)
         return refused(4);
-    if (s->count > 1 && is_broken_row(top_row(s, words) - FRAME_WORDS, s->len))
+    if (s->count > 1 && is_broken_row(words + top_at(s) - FRAME_WORDS, s->len))
         return refused(9);
     return judge_top(s, words);
 }
 
-INLINE floor_frame step_pop(cattlecleat_state *s, uint64_t *words, uint64_t instance) {
-    const uint64_t *gone = top_row(s, words), *below = gone - FRAME_WORDS;
+INLINE cattlecleat_frame step_pop(cattlecleat_state *s, const uint64_t *words, uint64_t instance) {
+    const uint64_t *gone = words + top_at(s), *below = gone - FRAME_WORDS;
     s->count--;
     if (s->count == 0)
-        return (floor_frame){1, 0, 0, 0};
+        return (cattlecleat_frame){1, 0, 0, 0};
     if (gone[DEBT_FLAG]) {
         instance = gone[DEBT];
         s->current_flag = 1;
         s->current = instance;
     }
-    return (floor_frame){0, below[START], below[IP], instance};
+    return (cattlecleat_frame){0, below[START], below[IP], instance};
 }
 
 /* ---- replace: 9, 4, 5, 2, 3, 7 */
 
 /* The parameters lie below `len` as it is after growth. */
-INLINE plan judge_replace(const cattlecleat_state *s, uint64_t *words, const floor_replace *q) {
+INLINE plan judge_replace(const cattlecleat_state *s, const uint64_t *words, const cattlecleat_replace *q) {
     if (s->count == 0)
         return refused(4);
     plan top = judge_top(s, words);
@@ -165,13 +165,13 @@ INLINE plan judge_replace(const cattlecleat_state *s, uint64_t *words, const flo
     return p.number == 0 && top.start + q->head + q->params > p.len ? refused(7) : p;
 }
 
-INLINE uint64_t replace_cost(const floor_replace *q) {
+INLINE uint64_t replace_cost(const cattlecleat_replace *q) {
     return 1 + (uint64_t)q->locals;
 }
 
 /* Without slots there are no parameters and no locals, and no cell is touched. */
-INLINE void step_replace(cattlecleat_state *s, uint64_t *words, uint64_t *cells, const floor_replace *q, plan p) {
-    uint64_t *top = top_row(s, words);
+INLINE void step_replace(cattlecleat_state *s, uint64_t *words, uint64_t *cells, const cattlecleat_replace *q, plan p) {
+    uint64_t *top = words + top_at(s);
     top[IP] = q->callee;
     if (q->instance_flag) {
         if (top[DEBT_FLAG] == 0 && s->current_flag && s->current != q->instance) {
@@ -188,7 +188,7 @@ INLINE void step_replace(cattlecleat_state *s, uint64_t *words, uint64_t *cells,
 
 /* ---- host: 9, 4, 2, 3 */
 
-INLINE plan judge_host(const cattlecleat_state *s, uint64_t *words, const floor_host *q) {
+INLINE plan judge_host(const cattlecleat_state *s, const uint64_t *words, const cattlecleat_host *q) {
     plan top = judge_top(s, words);
     if (top.number)
         return top;
@@ -197,16 +197,16 @@ INLINE plan judge_host(const cattlecleat_state *s, uint64_t *words, const floor_
     return judge_growth(s, top.start, top.start + q->head + larger(q->params, q->results));
 }
 
-INLINE void step_host(cattlecleat_state *s, uint64_t *words, const floor_host *q, plan p) {
+INLINE void step_host(cattlecleat_state *s, uint64_t *words, const cattlecleat_host *q, plan p) {
     if (q->caller_flag)
-        top_row(s, words)[IP] = q->caller;
+        words[top_at(s) + IP] = q->caller;
     s->len = p.len;
 }
 
 /* ---- return-host: 9, 4, 7, 2, 3 */
 
 /* The parameters lie below `len` as it is before growth. */
-INLINE plan judge_return_host(const cattlecleat_state *s, uint64_t *words, const floor_return_host *q) {
+INLINE plan judge_return_host(const cattlecleat_state *s, const uint64_t *words, const cattlecleat_return_host *q) {
     plan top = judge_pop(s, words);
     size_t size = larger(q->params, q->results);
     if (top.number || size == 0)
@@ -216,11 +216,12 @@ INLINE plan judge_return_host(const cattlecleat_state *s, uint64_t *words, const
     return judge_growth(s, top.start, top.start + size);
 }
 
-INLINE uint64_t return_host_cost(const floor_return_host *q) {
+INLINE uint64_t return_host_cost(const cattlecleat_return_host *q) {
     return 1 + (uint64_t)q->params;
 }
 
-INLINE floor_frame step_return_host(cattlecleat_state *s, uint64_t *words, uint64_t *cells, const floor_return_host *q, plan p) {
+INLINE cattlecleat_frame step_return_host(cattlecleat_state *s, const uint64_t *words, uint64_t *cells,
+                                          const cattlecleat_return_host *q, plan p) {
     s->len = p.len;
     copy(cells, p.start + q->head, p.start, q->params);
     return step_pop(s, words, q->instance);

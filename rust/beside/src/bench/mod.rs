@@ -7,7 +7,6 @@ mod callgrind;
 mod clock;
 #[cfg(floor)]
 mod floor;
-#[cfg(any(floor, feature = "in-place"))]
 mod in_place;
 mod lent;
 mod line;

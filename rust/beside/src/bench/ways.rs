@@ -3,10 +3,7 @@
 use super::by_value::ByValue;
 #[cfg(floor)]
 use super::floor::{self, Floor};
-#[cfg(any(floor, feature = "in-place"))]
-use super::in_place::InPlace;
-#[cfg(feature = "in-place")]
-use super::in_place::ours::Ours;
+use super::in_place::{InPlace, Ours};
 use super::replayed::Replayed;
 use super::rust;
 use super::side::Side;
@@ -44,7 +41,6 @@ pub fn all() -> Result<[Way; 2], String> {
             party("the Rust, inlined", Role::Plain, rust::Asked::inlined()),
             party("the Rust behind a call", Role::Plain, rust::Asked::behind_a_call()),
             party("ours, by value", Role::Plain, ByValue::open()?),
-            #[cfg(feature = "in-place")]
             party("ours, in place", Role::LikeFloor, InPlace::<Ours>::open()?),
             #[cfg(floor)]
             party(BY_HAND, Role::Floor, InPlace::<Floor>::open()?),

@@ -5,12 +5,12 @@ mod records;
 mod requests;
 
 use super::{Floor, replay};
-use crate::bench::in_place::{Face, Frame, Host, Hosted, Offset, Push, Replace, ReturnHost, Returned, call};
+use crate::bench::in_place::{Face, asked};
 use crate::party::convert::{flagged, plain_host, plain_state, raw_request, raw_state};
 use crate::plain::{Answer, Replay, Request, said};
 use crate::reading::{self, Reading};
 use crate::rng::mix;
-use cattlecleat::raw;
+use cattlecleat::raw::{self, Frame, Hosted, Offset, Returned};
 
 /// Asks both, and has the reading go on: the answer. What must not matter is filled from a number.
 fn ask_both(stack: &mut Reading, q: &Request, noise: u64) -> Answer {
@@ -30,15 +30,12 @@ fn ask_both(stack: &mut Reading, q: &Request, noise: u64) -> Answer {
 
 /// One of the five kinds that C by hand has functions for.
 fn ask(s: &mut raw::State, words: &mut [u64], cells: &mut [u64], q: &raw::Request) -> Answer {
-    // SAFETY: the functions are a face's.
-    unsafe {
-        match q.kind {
-            1 => offset(call(Floor::PUSH, s, words, cells, &Push::of(q))),
-            2 => frame(call(Floor::POP, s, words, cells, q.instance)),
-            3 => offset(call(Floor::REPLACE, s, words, cells, &Replace::of(q))),
-            4 => hosted(call(Floor::HOST, s, words, cells, &Host::of(q))),
-            _ => returned(call(Floor::RETURN_HOST, s, words, cells, &ReturnHost::of(q))),
-        }
+    match q.kind {
+        1 => offset(Floor::push_frame(s, words, cells, &asked::push(q))),
+        2 => frame(Floor::pop_frame(s, words, cells, q.instance)),
+        3 => offset(Floor::replace_frame(s, words, cells, &asked::replace(q))),
+        4 => hosted(Floor::prepare_host_frame(s, words, cells, &asked::host(q))),
+        _ => returned(Floor::return_prepare_host_frame(s, words, cells, &asked::return_host(q))),
     }
 }
 

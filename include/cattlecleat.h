@@ -11,7 +11,7 @@
  * Every state, request, number, byte and content of a buffer gets an answer. Nothing is kept between calls, and no memory is allocated.
  *
  * The state goes in by value and comes back with the answer, or it is lent and stays where it is: each request has a function of both
- * sorts, and the second is several times as fast. Frames lie in `words`, CATTLECLEAT_FRAME_WORDS words per frame, oldest first: ip, start,
+ * sorts, and the second is faster. Frames lie in `words`, CATTLECLEAT_FRAME_WORDS words per frame, oldest first: ip, start,
  * debt flag (0 or 1) and debt instance. In a struct, a flag of 0 reads as none whatever the number beside it, any other as given. A refusal
  * hands state and slot back number for number as they came, and a replay hands back as it came whatever the trace left as it was; else a
  * flag that comes back is 0 or 1, and a 0 stands beside a 0.

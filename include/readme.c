@@ -20,7 +20,8 @@ int main(void) {
     a = cattlecleat_ask(a.state, words, 3 * CATTLECLEAT_FRAME_WORDS, cells, 10, q);
     /* a.number 0: done; a.offset 0: the start of the new frame; a.state.len 4 */
     cattlecleat_state s = a.state;
-    cattlecleat_frame f = cattlecleat_pop_frame(&s, words, 3 * CATTLECLEAT_FRAME_WORDS, cells, 10, 1);
+    cattlecleat_frame f = cattlecleat_pop_frame(&s, words, 3 * CATTLECLEAT_FRAME_WORDS, cells, 10,
+                                                1);
     /* f.number 1: done, and the last frame is gone; s.count 0 */
     expect("a.number", a.number, 0);
     expect("a.offset", a.offset, 0);

@@ -66,10 +66,10 @@ pub fn is_broken_next(s: State, words: &[u64], cells: &[u64]) -> bool
     if is_broken_state(s, words, cells) {
         return true;
     }
-    if is_broken_at(words, depth, count, 1, len) {
+    if is_broken_at(words, depth, count, 0, len) {
         return true;
     }
-    is_broken_at(words, depth, count, 0, len)
+    is_broken_at(words, depth, count, 1, len)
 }
 
 // Whether there is a frame with so many above it, and its row is broken.

@@ -1,6 +1,7 @@
 // What calls and hosts share: two causes of refusal, and the return ('pop as above').
 ghost use mathlib.Core.Path.{_≡_};
-ghost use Rattle.rules.specs.World.{worldOf};
+ghost use Rattle.frames.specs.Rows.{rowAt};
+ghost use Rattle.rules.specs.World.{worldOf, fromTop};
 ghost use Rattle.rules.specs.Answers.{shownAnswer, shownOutcome};
 ghost use Rattle.rules.specs.Returns.{instanceAfter, returnedTo, returned};
 ghost use Rattle.rules.specs.Shared.{strayIp, beyondLen};
@@ -52,20 +53,28 @@ pub fn step_return(
     let depth = s.depth;
     let count = s.count;
     let top = read_row(words, depth, from_top(count, 1));
-    let next = read_row(words, depth, from_top(count, 2));
     Outcome {
-        answer: returned_to(count, top, next, instance, host),
+        answer: returned_to(words, depth, count, top, instance, host),
         state: moved_state(s, room.count, instance_after(s, top), room.len),
     }
 }
 
-// What a return from the newest of `count` frames answers, with the host frame that goes with it.
-fn returned_to(count: usize, top: Row, next: Row, instance: u64, host: HostFrame) -> Answer
-    ensures { λ r. ⌜ shownAnswer r ≡ returnedTo count top next instance host ⌝ }
+// What a return from the newest of `count` frames answers, with the host frame that goes with it. The next frame is read where there is one, so that the
+// compiler knows where it lies.
+fn returned_to(
+    words: &[u64],
+    depth: usize,
+    count: usize,
+    top: Row,
+    instance: u64,
+    host: HostFrame,
+) -> Answer
+    ensures { λ r. ⌜ shownAnswer r ≡ returnedTo count top (rowAt depth (now (words .entry)) (fromTop count 2)) instance host ⌝ }
 {
     if count == 1 {
         return Answer::Gone(host);
     }
+    let next = read_row(words, depth, from_top(count, 2));
     let woken = or_else(debt_of(top), Given::Value(instance));
     Answer::Done(Values {
         offset: next.start as usize,

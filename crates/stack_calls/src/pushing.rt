@@ -1,5 +1,6 @@
 // Push: a call. The caller's ip is stored, a frame is added, and its locals are cleared.
 ghost use mathlib.Core.Path.{_≡_};
+ghost use mathlib.Core.Bool.{false};
 ghost use mathlib.Core.List.{_∷_};
 ghost use lib.Dec.{ltb, eqb};
 ghost use Rattle.choice.specs.Choose.{choose};
@@ -49,7 +50,8 @@ pub fn judge_push(s: State, words: &[u64], cells: &[u64], q: PushArgs) -> Judgem
     let start = top_start(words, depth, count) + head as usize;
     let end = start + slots as usize;
     let more = count + 1;
-    if count == depth {
+    // the count is at most the limit: asked so, the compiler knows that the new row is there
+    if depth <= count {
         return Judgement::Refuse(Refusal::Overflow);
     }
     if is_stray_ip(count, caller) {
@@ -71,10 +73,21 @@ fn judge_counts(s: State, q: PushArgs, start: usize, end: usize, count: usize) -
     if are_bad_counts(q.params, q.locals, slots) {
         return Judgement::Refuse(Refusal::BadCounts);
     }
-    if is_head_of_none(q.head, slots) {
+    if slots == 0 {
+        return judge_none(s, q.head, start, end, count);
+    }
+    judge_growth(s, true, start, end, count)
+}
+
+// Of a frame without slots: 5 where it has a head. It does not grow.
+fn judge_none(s: State, head: u16, start: usize, end: usize, count: usize) -> Judgement
+    ensures { λ r. ⌜ shownJudgement r
+        ≡ judged (headOfNone head 0 gives 5 ∷ growthTests s false end) (roomOf start end (grownTo s false end) count) ⌝ }
+{
+    if head != 0 {
         return Judgement::Refuse(Refusal::BadCounts);
     }
-    judge_growth(s, 0 < slots, start, end, count)
+    judge_growth(s, false, start, end, count)
 }
 
 // Whether no caller's ip is given over a frame.
@@ -89,13 +102,6 @@ pub fn are_bad_counts(params: u16, locals: u16, slots: u16) -> bool
     ensures { λ r. ⌜ r ≡ badCounts params locals slots ⌝ }
 {
     !((params <= locals) & (locals <= slots))
-}
-
-// Whether a frame without slots has a head.
-fn is_head_of_none(head: u16, slots: u16) -> bool
-    ensures { λ r. ⌜ r ≡ headOfNone head slots ⌝ }
-{
-    (slots == 0) & (head != 0)
 }
 
 // Calls: the offset is the new frame's start.

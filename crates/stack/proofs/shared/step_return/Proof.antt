@@ -14,22 +14,13 @@ step-return-spec =
     (λ c κs. search needs)
     (λ c κs. search needs)
     (λ c κs. search needs)
-    (λ c κs. search needs)
-    (λ c κs. search needs)
     (λ c.
     let after-instance-after = c .before in
     let after-returned-to = after-instance-after .before in
-    let after-read-row2 = after-returned-to .before in
-    let after-from-top2 = after-read-row2 .before in
-    let after-read-row = after-from-top2 .before in
+    let after-read-row = after-returned-to .before in
     let after-from-top = after-read-row .before in
     after-same _ _ _ _ _ _ _ _
-    (rw (
-      sym (after-from-top .from-top .ensures),
-      sym (after-from-top2 .from-top2 .ensures),
-      sym (after-read-row .read-row .ensures),
-      sym (after-read-row2 .read-row2 .ensures),
-    ) (after-returned-to .returned-to .ensures))
+    (rw (sym (after-from-top .from-top .ensures), sym (after-read-row .read-row .ensures)) (after-returned-to .returned-to .ensures))
     (rw (
       sym (after-from-top .from-top .ensures),
       sym (after-read-row .read-row .ensures),

@@ -1,4 +1,4 @@
--- A state in words, as it lies: depth, height, words, cells, count, `len`, the flag of the current instance and the instance, then the registers in three.
+-- A state in words, as x86-64 has it: depth, height, words, cells, count, `len`, the flag of the current instance and the instance, then the registers in three.
 -- A flag of 0 reads as none whatever the number beside it, any other as given.
 --     stateHeld st regs             the state that the first eight say, with these registers
 --     registersHeld ws at           the registers in three words from a place on: of the second the low half, where the f32 lies
@@ -6,7 +6,7 @@
 --     currentPut st g               the words with this current instance, its flag 1
 --     movedPut st s                 the words with the count, `len` and current instance of a state
 --     lenPut st s                   with its `len` alone
---     registersLaid st ws            with these three in place of the registers
+--     registersLaid st ws           with these three in place of the registers
 --     emptiedPut st                 with no frame, no instance, `len` and registers 0
 --     unlessRefused number st st′   the words after an answer with this number: on a refusal as they came
 use mathlib.Core.List.{List, [], _∷_}

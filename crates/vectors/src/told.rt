@@ -1,7 +1,7 @@
 // What the C face answers, as the numbers that a line tells.
 use crate::states::state_told;
+use face::CPart;
 use face_ask::CAnswer;
-use face_ask::CPart;
 use face_leaves::CRead;
 use face_replay::CRun;
 use vector_text::floats::double_bits;

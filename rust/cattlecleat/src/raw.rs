@@ -5,7 +5,7 @@
 //! overlap, or be the same: [`open`], [`sync_registers`], [`host_part`] and others write to neither, and answer by what each holds.
 //!
 //! In place ([`push_frame`] and the others that take a `&mut State` or a `&State`) a request answers the same numbers as by value
-//! ([`ask`]), several times as fast, and leaves a state that says the same. It writes of it only what it moves, and a refusal nothing.
+//! ([`ask`]), faster, and leaves a state that says the same. It writes of it only what it moves, and a refusal nothing.
 //!
 //! [`Stack`](crate::Stack) is the comfortable way; this is the way for a host that keeps the state itself, and for whoever compares every
 //! number.

@@ -39,7 +39,8 @@ module _ (r : Record) where
   unfolding entryFor
   broken-says k e b p q = chosen-second _ _ _ _ _ (sym (lawful-as r k e) ∙ sym p ∙ q) refl
 
-  pub kept-says : (k : ℕ) → r .kind ≡ k → (b : Bool) → b ≡ lawfulAs (codedRow (rowOfKind k)) r → b ≡ true → (q : Request) → q ≡ requestIn r → Asks q ≡ entryFor r
+  pub kept-says : (k : ℕ) → r .kind ≡ k → (b : Bool) → b ≡ lawfulAs (codedRow (rowOfKind k)) r → b ≡ true → (q : Request) → q ≡ requestIn r
+      → Asks q ≡ entryFor r
   unfolding entryFor
   kept-says k e b p t q says = chosen-first _ _ _ _ _ (sym (lawful-as r k e) ∙ sym p ∙ t) (ap Asks says)
 
@@ -87,7 +88,8 @@ module _ (r : Record) where
       by (yes more) = kind-beyond r more
       by (no less) =
           let last : r .kind ≤ 9 = omega arith in
-          let none = peeled _ 0 (peeled _ 1 (peeled _ 2 (peeled _ 3 (peeled _ 4 (peeled _ 5 (peeled _ 6 (peeled _ 7 (peeled _ 8 last i) h) g) f) e) d) c) b) a in
+          let five = peeled _ 5 (peeled _ 6 (peeled _ 7 (peeled _ 8 last i) h) g) f in
+          let none = peeled _ 0 (peeled _ 1 (peeled _ 2 (peeled _ 3 (peeled _ 4 five e) d) c) b) a in
           kind-zero r (omega (arith, none))
 
   pub no-kind-says : (r .kind ≡ 1 → ⊥) → (r .kind ≡ 2 → ⊥) → (r .kind ≡ 3 → ⊥) → (r .kind ≡ 4 → ⊥) → (r .kind ≡ 5 → ⊥) → (r .kind ≡ 6 → ⊥) → (r .kind ≡ 7 → ⊥)

@@ -1,6 +1,6 @@
 // A replay in its course, by value, and one record of it that was decoded before.
 ghost use mathlib.Core.Path.{_≡_};
-ghost use Rattle.replay.specs.Packing.{runAgain, ranAgain};
+ghost use Rattle.replay.specs.Packing.{runningAgain, wentShown};
 ghost use Rattle.replay.specs.Running.{runningOf, startedRun, ranBy, shownRan, ranOn, ran};
 use crate::flat::Fixed;
 use crate::flat::Moving;
@@ -71,8 +71,8 @@ pub(crate) fn nothing_ran(run: Run) -> Ran
 
 // A request goes by its record, so that there is one way through the kinds.
 fn run_entry(f: Fixed, m: Moving, words: &mut [u64], cells: &mut [u64], entry: Decoded) -> Went
-    ensures { λ r. ⌜ shownRan (ranAgain f r) (now (words .exit)) (now (cells .exit))
-        ≡ ranOn (runningOf (runAgain f m) (now (words .entry)) (now (cells .entry))) entry ⌝ }
+    ensures { λ r. ⌜ wentShown f r (now (words .exit)) (now (cells .exit))
+        ≡ ranOn (runningAgain f m (now (words .entry)) (now (cells .entry))) entry ⌝ }
 {
     match entry {
         Decoded::Asks(q) => kind_turn(f, m, words, cells, record_of(q)),

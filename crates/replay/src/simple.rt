@@ -1,13 +1,7 @@
 // Sync, restore, reset and set in a trace, as `calls.rt` has the calls.
 ghost use mathlib.Core.Path.{_≡_};
-ghost use Prim.Native.Nat.{_+_};
-ghost use Rattle.rules.specs.World.{worldOf};
-ghost use Rattle.rules.specs.declared.Request.the-variants.{Sync, Restore, Reset, Set};
-ghost use Rattle.rules.specs.declared.Asked.the-variants.{Traced};
-ghost use Rattle.rules.specs.Rules.{effectIn};
-ghost use Rattle.replay.specs.Costs.{workOf};
-ghost use Rattle.replay.specs.Packing.{stateAgain, runAgain, ranAgain};
-ghost use Rattle.replay.specs.Running.{runningOf, shownRan, ranAt, ranOn};
+ghost use Rattle.replay.specs.Packing.{runningAgain, wentShown};
+ghost use Rattle.replay.specs.Running.{ranOn};
 ghost use Rattle.replay.specs.ByKind.{entryFor};
 use crate::cost::ONE;
 use crate::flat::Fixed;
@@ -27,7 +21,6 @@ use record::SET_ROW;
 use record::SYNC_ROW;
 use record::keeps_row;
 use rules::Judgement;
-use rules::Room;
 use stack::judge_reset;
 use stack::judge_restore;
 use stack::judge_set;
@@ -47,8 +40,8 @@ pub(crate) fn sync_turn(
     r: Record,
 ) -> Went
     requires { ⌜ r .kind ≡ 6 ⌝ }
-    ensures { λ x. ⌜ shownRan (ranAgain f x) (now (words .exit)) (now (cells .exit))
-        ≡ ranOn (runningOf (runAgain f m) (now (words .entry)) (now (cells .entry))) (entryFor r) ⌝ }
+    ensures { λ x. ⌜ wentShown f x (now (words .exit)) (now (cells .exit))
+        ≡ ranOn (runningAgain f m (now (words .entry)) (now (cells .entry))) (entryFor r) ⌝ }
 {
     if !keeps_row(SYNC_ROW, r) {
         return refused_at(f, m, BAD_RECORD);
@@ -56,30 +49,15 @@ pub(crate) fn sync_turn(
     let s = state_again(f, m);
     match judge_sync(s, words, cells) {
         Judgement::Refuse(why) => refused_for(f, m, why),
-        Judgement::Accept(room) => sync_in_room(f, m, words, cells, r.word1, room),
+        Judgement::Accept(room) => {
+            let spent = m.spent;
+            if left_of(f.fuel, spent) < ONE {
+                return stopped_before(m, ONE);
+            }
+            let total = spent + ONE;
+            went_by(m, step_sync(s, words, cells, r.word1, room), total)
+        }
     }
-}
-
-fn sync_in_room(
-    f: Fixed,
-    m: Moving,
-    words: &mut [u64],
-    cells: &mut [u64],
-    ip: u64,
-    room: Room,
-) -> Went
-    ensures { λ r. ⌜ shownRan (ranAgain f r) (now (words .exit)) (now (cells .exit))
-        ≡ ranAt (runningOf (runAgain f m) (now (words .entry)) (now (cells .entry)))
-        (effectIn (worldOf (stateAgain f m) (now (words .entry)) (now (cells .entry))) (Traced (Sync ip)) room) (1 + workOf (Sync ip)) ⌝ }
-{
-    let spent = m.spent;
-    let cost = ONE;
-    if left_of(f.fuel, spent) < cost {
-        return stopped_before(m, cost);
-    }
-    let total = spent + cost;
-    let s = state_again(f, m);
-    went_by(m, step_sync(s, words, cells, ip, room), total)
 }
 
 // ---- restore
@@ -92,8 +70,8 @@ pub(crate) fn restore_turn(
     r: Record,
 ) -> Went
     requires { ⌜ r .kind ≡ 7 ⌝ }
-    ensures { λ x. ⌜ shownRan (ranAgain f x) (now (words .exit)) (now (cells .exit))
-        ≡ ranOn (runningOf (runAgain f m) (now (words .entry)) (now (cells .entry))) (entryFor r) ⌝ }
+    ensures { λ x. ⌜ wentShown f x (now (words .exit)) (now (cells .exit))
+        ≡ ranOn (runningAgain f m (now (words .entry)) (now (cells .entry))) (entryFor r) ⌝ }
 {
     if !keeps_row(RESTORE_ROW, r) {
         return refused_at(f, m, BAD_RECORD);
@@ -101,23 +79,15 @@ pub(crate) fn restore_turn(
     let s = state_again(f, m);
     match judge_restore(s, words, cells) {
         Judgement::Refuse(why) => refused_for(f, m, why),
-        Judgement::Accept(room) => restore_in_room(f, m, words, cells, room),
+        Judgement::Accept(room) => {
+            let spent = m.spent;
+            if left_of(f.fuel, spent) < ONE {
+                return stopped_before(m, ONE);
+            }
+            let total = spent + ONE;
+            went_by(m, step_restore(s, words, cells, room), total)
+        }
     }
-}
-
-fn restore_in_room(f: Fixed, m: Moving, words: &mut [u64], cells: &mut [u64], room: Room) -> Went
-    ensures { λ r. ⌜ shownRan (ranAgain f r) (now (words .exit)) (now (cells .exit))
-        ≡ ranAt (runningOf (runAgain f m) (now (words .entry)) (now (cells .entry)))
-        (effectIn (worldOf (stateAgain f m) (now (words .entry)) (now (cells .entry))) (Traced Restore) room) (1 + workOf Restore) ⌝ }
-{
-    let spent = m.spent;
-    let cost = ONE;
-    if left_of(f.fuel, spent) < cost {
-        return stopped_before(m, cost);
-    }
-    let total = spent + cost;
-    let s = state_again(f, m);
-    went_by(m, step_restore(s, words, cells, room), total)
 }
 
 // ---- reset
@@ -130,8 +100,8 @@ pub(crate) fn reset_turn(
     r: Record,
 ) -> Went
     requires { ⌜ r .kind ≡ 8 ⌝ }
-    ensures { λ x. ⌜ shownRan (ranAgain f x) (now (words .exit)) (now (cells .exit))
-        ≡ ranOn (runningOf (runAgain f m) (now (words .entry)) (now (cells .entry))) (entryFor r) ⌝ }
+    ensures { λ x. ⌜ wentShown f x (now (words .exit)) (now (cells .exit))
+        ≡ ranOn (runningAgain f m (now (words .entry)) (now (cells .entry))) (entryFor r) ⌝ }
 {
     if !keeps_row(RESET_ROW, r) {
         return refused_at(f, m, BAD_RECORD);
@@ -139,31 +109,23 @@ pub(crate) fn reset_turn(
     let s = state_again(f, m);
     match judge_reset(s, words, cells) {
         Judgement::Refuse(why) => refused_for(f, m, why),
-        Judgement::Accept(room) => reset_in_room(f, m, words, cells, room),
+        Judgement::Accept(room) => {
+            let spent = m.spent;
+            if left_of(f.fuel, spent) < ONE {
+                return stopped_before(m, ONE);
+            }
+            let total = spent + ONE;
+            went_by(m, step_reset(s, words, cells), total)
+        }
     }
-}
-
-fn reset_in_room(f: Fixed, m: Moving, words: &mut [u64], cells: &mut [u64], room: Room) -> Went
-    ensures { λ r. ⌜ shownRan (ranAgain f r) (now (words .exit)) (now (cells .exit))
-        ≡ ranAt (runningOf (runAgain f m) (now (words .entry)) (now (cells .entry)))
-        (effectIn (worldOf (stateAgain f m) (now (words .entry)) (now (cells .entry))) (Traced Reset) room) (1 + workOf Reset) ⌝ }
-{
-    let spent = m.spent;
-    let cost = ONE;
-    if left_of(f.fuel, spent) < cost {
-        return stopped_before(m, cost);
-    }
-    let total = spent + cost;
-    let s = state_again(f, m);
-    went_by(m, step_reset(s, words, cells), total)
 }
 
 // ---- set
 
 pub(crate) fn set_turn(f: Fixed, m: Moving, words: &mut [u64], cells: &mut [u64], r: Record) -> Went
     requires { ⌜ r .kind ≡ 9 ⌝ }
-    ensures { λ x. ⌜ shownRan (ranAgain f x) (now (words .exit)) (now (cells .exit))
-        ≡ ranOn (runningOf (runAgain f m) (now (words .entry)) (now (cells .entry))) (entryFor r) ⌝ }
+    ensures { λ x. ⌜ wentShown f x (now (words .exit)) (now (cells .exit))
+        ≡ ranOn (runningAgain f m (now (words .entry)) (now (cells .entry))) (entryFor r) ⌝ }
 {
     if !keeps_row(SET_ROW, r) {
         return refused_at(f, m, BAD_RECORD);
@@ -171,29 +133,13 @@ pub(crate) fn set_turn(f: Fixed, m: Moving, words: &mut [u64], cells: &mut [u64]
     let s = state_again(f, m);
     match judge_set(s, words, cells, r.head) {
         Judgement::Refuse(why) => refused_for(f, m, why),
-        Judgement::Accept(room) => set_in_room(f, m, words, cells, r.head, r.word2, room),
+        Judgement::Accept(room) => {
+            let spent = m.spent;
+            if left_of(f.fuel, spent) < ONE {
+                return stopped_before(m, ONE);
+            }
+            let total = spent + ONE;
+            went_by(m, step_set(s, words, cells, r.word2, room), total)
+        }
     }
-}
-
-fn set_in_room(
-    f: Fixed,
-    m: Moving,
-    words: &mut [u64],
-    cells: &mut [u64],
-    head: u16,
-    cell: u64,
-    room: Room,
-) -> Went
-    ensures { λ r. ⌜ shownRan (ranAgain f r) (now (words .exit)) (now (cells .exit))
-        ≡ ranAt (runningOf (runAgain f m) (now (words .entry)) (now (cells .entry)))
-        (effectIn (worldOf (stateAgain f m) (now (words .entry)) (now (cells .entry))) (Traced (Set head cell)) room) (1 + workOf (Set head cell)) ⌝ }
-{
-    let spent = m.spent;
-    let cost = ONE;
-    if left_of(f.fuel, spent) < cost {
-        return stopped_before(m, cost);
-    }
-    let total = spent + cost;
-    let s = state_again(f, m);
-    went_by(m, step_set(s, words, cells, cell, room), total)
 }

@@ -4,7 +4,7 @@ ghost use Prim.Native.Nat.{_+_, _<_};
 ghost use lib.ListN.{length};
 ghost use Rattle.record.specs.Form.{recordSize};
 ghost use Rattle.request.specs.Entries.{entriesLeft};
-ghost use Rattle.replay.specs.Packing.{runAgain};
+ghost use Rattle.replay.specs.Packing.{runningAgain};
 ghost use Rattle.replay.specs.Running.{runningOf, ranAll, replayed};
 ghost use Rattle.replay.specs.Turns.{shownTurn, turnAt};
 use crate::flat::Fixed;
@@ -88,7 +88,7 @@ pub fn replay(run: Run, words: &mut [u64], cells: &mut [u64], bytes: &[u8]) -> R
 fn short_end(f: Fixed, m: Moving, words: &[u64], cells: &[u64], bytes: &[u8], at: usize) -> Run
     requires { ⌜ length (now bytes) < at + recordSize ⌝ }
     ensures { λ r. ⌜ runningOf r (now (words .entry)) (now (cells .entry))
-        ≡ ranAll (runningOf (runAgain f m) (now (words .entry)) (now (cells .entry))) (entriesLeft (now (bytes .entry)) at) ⌝ }
+        ≡ ranAll (runningAgain f m (now (words .entry)) (now (cells .entry))) (entriesLeft (now (bytes .entry)) at) ⌝ }
 {
     if bytes.len() <= at {
         return run_again(f, m);

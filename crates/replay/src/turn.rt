@@ -4,8 +4,8 @@ ghost use Prim.Native.Nat.{_<_};
 ghost use lib.ListN.{length};
 ghost use Rattle.request.specs.Entries.{entryAt};
 ghost use Rattle.replay.specs.ByKind.{entryFor};
-ghost use Rattle.replay.specs.Packing.{runAgain, ranAgain};
-ghost use Rattle.replay.specs.Running.{runningOf, shownRan, ranOn};
+ghost use Rattle.replay.specs.Packing.{runningAgain, wentShown};
+ghost use Rattle.replay.specs.Running.{ranOn};
 use crate::calls::pop_turn;
 use crate::calls::push_turn;
 use crate::calls::replace_turn;
@@ -43,8 +43,8 @@ pub(crate) fn turn(
     at: usize,
 ) -> Went
     requires { ⌜ at < length (now bytes) ⌝ }
-    ensures { λ r. ⌜ shownRan (ranAgain f r) (now (words .exit)) (now (cells .exit))
-        ≡ ranOn (runningOf (runAgain f m) (now (words .entry)) (now (cells .entry))) (entryAt (now (bytes .entry)) at) ⌝ }
+    ensures { λ r. ⌜ wentShown f r (now (words .exit)) (now (cells .exit))
+        ≡ ranOn (runningAgain f m (now (words .entry)) (now (cells .entry))) (entryAt (now (bytes .entry)) at) ⌝ }
 {
     match read_fields(bytes, at) {
         Read::Found(r) => kind_turn(f, m, words, cells, r),
@@ -59,8 +59,8 @@ pub(crate) fn kind_turn(
     cells: &mut [u64],
     r: Record,
 ) -> Went
-    ensures { λ x. ⌜ shownRan (ranAgain f x) (now (words .exit)) (now (cells .exit))
-        ≡ ranOn (runningOf (runAgain f m) (now (words .entry)) (now (cells .entry))) (entryFor r) ⌝ }
+    ensures { λ x. ⌜ wentShown f x (now (words .exit)) (now (cells .exit))
+        ≡ ranOn (runningAgain f m (now (words .entry)) (now (cells .entry))) (entryFor r) ⌝ }
 {
     let kind = r.kind;
     match kind {

@@ -8,7 +8,9 @@ use Rattle.replay.proofs.flat.went_by.Tie as tie
 returns : tie.Need-returns
 returns c =
     let a = c .before .before .before .before .args in
-    c .went-on .ensures ∙ (λ i. wentOnWith (a .m) (a .out .state) (a .spent) (c .before .before .answer-number .ensures i) (c .before .answer-offset .ensures i))
+    let number = c .before .before .answer-number .ensures in
+    let offset = c .before .answer-offset .ensures in
+    c .went-on .ensures ∙ (λ i. wentOnWith (a .m) (a .out .state) (a .spent) (number i) (offset i))
 
 pub went-by-spec : {M : Type 1} → statement M
 went-by-spec =

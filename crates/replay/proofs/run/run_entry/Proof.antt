@@ -11,13 +11,14 @@ use Rattle.replay.proofs.run.run_entry.Tie as tie
 returns : tie.Need-returns
 returns c =
     let turned = c .before .before .before .before in
+    let asks = turned .before .before .before .before .before in
     turned .kind-turn .ensures
-    ∙ ap (ranOn _) (ap entryFor (turned .before .record-of .ensures) ∙ request-says _ ∙ sym (c .before .before .before .before .before .before .before .before .before .entry .given .1))
+    ∙ ap (ranOn _) (ap entryFor (turned .before .record-of .ensures) ∙ request-says _ ∙ sym (asks .entry .given .1))
 
 returns-2 : tie.Need-returns-2
 returns-2 c =
     let a = c .before .before .before .before .before .args in
-    arm-bad (a .f) (a .m) _ _ _ (c .refused-at .ensures) ∙ ap (ranOn _) (sym (c .before .enum-told .given .1))
+    arm-bad (a .f) (a .m) _ _ _ (c .refused-at .ensures) _ (sym (c .before .enum-told .given .1))
 
 pub run-entry-spec : {M : Type 1} → statement M
 run-entry-spec =

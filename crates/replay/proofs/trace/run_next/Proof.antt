@@ -15,14 +15,16 @@ use Rattle.replay.proofs.trace.run_next.Tie as tie
 returns : tie.Need-returns
 returns c =
     let a = c .before .before .before .before .before .args in
-    ap (λ (x : Ran). turnOf (shownRan x (now (a .words)) (now (a .cells))) (a .at)) (c .nothing-ran .ensures) ∙ turn-end _ (now (a .bytes)) (a .at) (c .before .if1 .taken)
+    ap (λ (x : Ran). turnOf (shownRan x (now (a .words)) (now (a .cells))) (a .at)) (c .nothing-ran .ensures)
+    ∙ turn-end _ (now (a .bytes)) (a .at) (c .before .if1 .taken)
 
 returns-2 : tie.Need-returns-2
 returns-2 c =
     let place = c .before .before .before in
     let a = place .before .before .before .before .before .args in
     turn-runs (runningOf (a .run) (now (a .words)) (now (a .cells))) (now (a .bytes)) (a .at) (omega arith) _ (place .place-after .ensures) _
-    (ap (λ (x : Ran). shownRan x (now (a .words)) (now (a .cells))) (c .nothing-ran2 .ensures) ∙ ran-ended _ _ (sym (c .before .before .is-given .ensures) ∙ c .before .if2 .taken))
+    (ap (λ (x : Ran). shownRan x (now (a .words)) (now (a .cells))) (c .nothing-ran2 .ensures)
+    ∙ ran-ended _ _ (sym (c .before .before .is-given .ensures) ∙ c .before .if2 .taken))
 
 returns-3 : tie.Need-returns-3
 returns-3 c =
@@ -33,7 +35,8 @@ returns-3 c =
     let place = else .before .before in
     let a = place .before .before .before .before .before .args in
     turn-runs (runningOf (a .run) (now (a .words)) (now (a .cells))) (now (a .bytes)) (a .at) (omega arith) _ (place .place-after .ensures) _
-    (parts-ran (a .run) (sym (else .before .is-given .ensures) ∙ else .if2 .left) _ (fixed .fixed-in .ensures) _ (moving .moving-in .ensures) _ _ _ (turned .turn .result) _ _
+    (parts-ran (a .run) (sym (else .before .is-given .ensures) ∙ else .if2 .left) _ (fixed .fixed-in .ensures) _ (moving .moving-in .ensures) _ _ _
+    (turned .turn .result) _ _
     (turned .turn .ensures) _ (c .ran-again .ensures))
 
 pub run-next-spec : {M : Type 1} → statement M

@@ -1,14 +1,10 @@
 -- `replay::trace::short_end` meets its contract: the end, or a short record. Assumes nothing.
-use mathlib.Core.Path.{refl, sym, ap, _∙_}
+use mathlib.Core.Path.{refl, sym, _∙_}
 use native.Mathlib.Omega.{arith}
 use borrow.Author.Needs.{needs}
 use denote.Ref.{now}
-use Rattle.replay.specs.declared.run.Run.{Run}
-use Rattle.replay.specs.declared.run.Ran.{Ran}
 use Rattle.request.specs.declared.Decoded.the-variants.{Bad}
-use Rattle.replay.specs.Running.{runningOf, ShownRan}
-use Rattle.replay.specs.Packing.{runAgain}
-use Rattle.replay.proofs.Records.{ran-on}
+use Rattle.replay.proofs.Packing.{run-running, went-leaves}
 use Rattle.replay.proofs.Arms.{arm-bad}
 use Rattle.replay.proofs.Turns.{turn-ends, left-short}
 use Rattle.replay.proofs.trace.short_end.Statement.{statement}
@@ -17,15 +13,14 @@ use Rattle.replay.proofs.trace.short_end.Tie as tie
 returns : tie.Need-returns
 returns c =
     let a = c .before .before .before .before .before .args in
-    ap (λ (r : Run). runningOf r (now (a .words)) (now (a .cells))) (c .run-again .ensures) ∙ sym (turn-ends _ (now (a .bytes)) (a .at) (omega arith))
+    run-running (a .f) (a .m) (now (a .words)) (now (a .cells)) _ (c .run-again .ensures) ∙ sym (turn-ends _ (now (a .bytes)) (a .at) (omega arith))
 
 returns-2 : tie.Need-returns-2
 returns-2 c =
     let a = c .before .before .before .before .before .before .before .args in
-    let v = runningOf (runAgain (a .f) (a .m)) (now (a .words)) (now (a .cells)) in
-    let refused = arm-bad (a .f) (a .m) (now (a .words)) (now (a .cells)) _ (c .before .before .refused-at .ensures) ∙ ran-on v Bad refl in
-    ap (λ (x : Ran). runningOf (x .run) (now (a .words)) (now (a .cells))) (c .before .ran-again .ensures) ∙ ap (λ (t : ShownRan). t .run) refused
-    ∙ left-short v (now (a .bytes)) (a .at) (omega arith) (search needs)
+    let refused = arm-bad (a .f) (a .m) (now (a .words)) (now (a .cells)) _ (c .before .before .refused-at .ensures) Bad refl in
+    went-leaves (a .f) (a .m) (now (a .words)) (now (a .cells)) Bad _ _ _ refused _ (c .before .ran-again .ensures)
+    ∙ left-short _ (now (a .bytes)) (a .at) (omega arith) (search needs)
 
 pub short-end-spec : {M : Type 1} → statement M
 short-end-spec =

@@ -1,7 +1,5 @@
 -- `replay::turn::kind_turn` meets its contract: each of the nine kinds by its own, and no other says anything. Assumes nothing.
-use mathlib.Core.Path.{ap, _∙_}
 use borrow.Author.Needs.{needs}
-use Rattle.replay.specs.Running.{ranOn}
 use Rattle.replay.proofs.Arms.{arm-bad}
 use Rattle.replay.proofs.ByKind.{no-kind-says}
 use Rattle.replay.proofs.turn.kind_turn.Statement.{statement}
@@ -11,8 +9,9 @@ returns-10 : tie.Need-returns-10
 returns-10 c =
     let rest = c .before .match .rest in
     let a = c .before .before .before .before .args in
-    arm-bad (a .f) (a .m) _ _ _ (c .refused-at .ensures)
-    ∙ ap (ranOn _) (no-kind-says (a .r) (rest .0 .0 .0 .0 .0 .0 .0 .0 .1) (rest .0 .0 .0 .0 .0 .0 .0 .1) (rest .0 .0 .0 .0 .0 .0 .1) (rest .0 .0 .0 .0 .0 .1) (rest .0 .0 .0 .0 .1) (rest .0 .0 .0 .1) (rest .0 .0 .1) (rest .0 .1) (rest .1))
+    arm-bad (a .f) (a .m) _ _ _ (c .refused-at .ensures) _
+    (no-kind-says (a .r) (rest .0 .0 .0 .0 .0 .0 .0 .0 .1) (rest .0 .0 .0 .0 .0 .0 .0 .1) (rest .0 .0 .0 .0 .0 .0 .1) (rest .0 .0 .0 .0 .0 .1)
+    (rest .0 .0 .0 .0 .1) (rest .0 .0 .0 .1) (rest .0 .0 .1) (rest .0 .1) (rest .1))
 
 pub kind-turn-spec : {M : Type 1} → statement M
 kind-turn-spec =

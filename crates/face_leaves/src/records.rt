@@ -14,6 +14,7 @@ use record::BAD_RECORD;
 use record::Read;
 use record::Record;
 use record::Written;
+use record::ZERO_RECORD;
 use record::read_record;
 use record::write_record;
 
@@ -40,23 +41,10 @@ pub extern "C" fn cattlecleat_read_record(bytes: &[u8], at: usize) -> CRead
         },
         Read::Bad => CRead {
             number: BAD_RECORD,
-            request: request_to(NO_RECORD),
+            request: request_to(ZERO_RECORD),
         },
     }
 }
-
-const NO_RECORD: Record = Record {
-    kind: 0,
-    flags: 0,
-    head: 0,
-    params: 0,
-    locals: 0,
-    slots: 0,
-    results: 0,
-    word1: 0,
-    word2: 0,
-    word3: 0,
-};
 
 // Writes the record that the numbers spell at a place: 0. 10, with no byte changed, where it breaks the rules of its kind or fewer than 40 bytes are left.
 #[no_mangle]

@@ -2,6 +2,7 @@
 // 0 where there is none), and 1 where the cursor answers otherwise.
 use crate::say;
 use record::Record;
+use record::ZERO_RECORD;
 use request::Next;
 
 pub struct Told {
@@ -9,19 +10,6 @@ pub struct Told {
     pub next: usize,
     pub record: Record,
 }
-
-const NONE: Record = Record {
-    kind: 0,
-    flags: 0,
-    head: 0,
-    params: 0,
-    locals: 0,
-    slots: 0,
-    results: 0,
-    word1: 0,
-    word2: 0,
-    word3: 0,
-};
 
 // Two lines. The place behind both.
 pub fn turn(trace: &[u8], at: usize) -> usize {
@@ -68,12 +56,12 @@ fn tell(answer: Next) -> Told {
         Next::Bad(next) => Told {
             number: 10,
             next,
-            record: NONE,
+            record: ZERO_RECORD,
         },
         Next::End => Told {
             number: 0,
             next: 0,
-            record: NONE,
+            record: ZERO_RECORD,
         },
     }
 }

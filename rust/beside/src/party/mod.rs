@@ -1,6 +1,8 @@
 //! The parties that are compared with the reading, step by step.
 
 #[cfg(target_arch = "x86_64")]
+pub mod arguments;
+#[cfg(target_arch = "x86_64")]
 pub mod convert;
 #[cfg(target_arch = "x86_64")]
 mod ours;

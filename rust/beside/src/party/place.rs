@@ -1,5 +1,6 @@
 //! The archive's requests in place, asked for and answered in the structs of those by value: so one party can go either way.
 
+use super::arguments::{host, push, replace, return_host};
 use crate::plain::{Flagged, anew, said};
 use cattlecleat::raw::{self, Answer, Registers, Request, State};
 
@@ -32,51 +33,6 @@ pub fn left(kind: u64, came: Flagged, found: Flagged) -> Flagged {
         (1 | 2 | 3 | 5, Some(instance)) => anew(Some(instance)),
         (8, _) => anew(None),
         _ => came,
-    }
-}
-
-fn push(q: &Request) -> raw::Push {
-    raw::Push {
-        head: q.head,
-        params: q.params,
-        locals: q.locals,
-        slots: q.slots,
-        caller_flag: q.caller_flag,
-        caller: q.caller,
-        callee: q.callee,
-        instance_flag: q.instance_flag,
-        instance: q.instance,
-    }
-}
-
-fn replace(q: &Request) -> raw::Replace {
-    raw::Replace {
-        head: q.head,
-        params: q.params,
-        locals: q.locals,
-        slots: q.slots,
-        callee: q.callee,
-        instance_flag: q.instance_flag,
-        instance: q.instance,
-    }
-}
-
-fn host(q: &Request) -> raw::Host {
-    raw::Host {
-        head: q.head,
-        params: q.params,
-        results: q.results,
-        caller_flag: q.caller_flag,
-        caller: q.caller,
-    }
-}
-
-fn return_host(q: &Request) -> raw::ReturnHost {
-    raw::ReturnHost {
-        head: q.head,
-        params: q.params,
-        results: q.results,
-        instance: q.instance,
     }
 }
 

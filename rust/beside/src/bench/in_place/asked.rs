@@ -1,6 +1,7 @@
 //! A request as the functions in place take it, and what they hand back added up.
 
 use super::{Face, Sums};
+use crate::party::arguments::{host, push, replace, return_host};
 use cattlecleat::raw::{Host, Push, Replace, Request, ReturnHost, State};
 
 pub enum Asked {
@@ -58,50 +59,5 @@ impl Asked {
                 found.number
             }
         }
-    }
-}
-
-pub fn push(q: &Request) -> Push {
-    Push {
-        head: q.head,
-        params: q.params,
-        locals: q.locals,
-        slots: q.slots,
-        caller_flag: q.caller_flag,
-        caller: q.caller,
-        callee: q.callee,
-        instance_flag: q.instance_flag,
-        instance: q.instance,
-    }
-}
-
-pub fn replace(q: &Request) -> Replace {
-    Replace {
-        head: q.head,
-        params: q.params,
-        locals: q.locals,
-        slots: q.slots,
-        callee: q.callee,
-        instance_flag: q.instance_flag,
-        instance: q.instance,
-    }
-}
-
-pub fn host(q: &Request) -> Host {
-    Host {
-        head: q.head,
-        params: q.params,
-        results: q.results,
-        caller_flag: q.caller_flag,
-        caller: q.caller,
-    }
-}
-
-pub fn return_host(q: &Request) -> ReturnHost {
-    ReturnHost {
-        head: q.head,
-        params: q.params,
-        results: q.results,
-        instance: q.instance,
     }
 }

@@ -1,6 +1,6 @@
 //! A function for each request, with the state in place: ours, or C by hand in the same shapes.
 
-pub mod asked;
+mod asked;
 mod ours;
 
 pub use self::ours::Ours;

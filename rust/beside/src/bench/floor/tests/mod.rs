@@ -5,7 +5,8 @@ mod records;
 mod requests;
 
 use super::{Floor, replay};
-use crate::bench::in_place::{Face, asked};
+use crate::bench::in_place::Face;
+use crate::party::arguments;
 use crate::party::convert::{flagged, plain_host, plain_state, raw_request, raw_state};
 use crate::plain::{Answer, Replay, Request, said};
 use crate::reading::{self, Reading};
@@ -31,11 +32,11 @@ fn ask_both(stack: &mut Reading, q: &Request, noise: u64) -> Answer {
 /// One of the five kinds that C by hand has functions for.
 fn ask(s: &mut raw::State, words: &mut [u64], cells: &mut [u64], q: &raw::Request) -> Answer {
     match q.kind {
-        1 => offset(Floor::push_frame(s, words, cells, &asked::push(q))),
+        1 => offset(Floor::push_frame(s, words, cells, &arguments::push(q))),
         2 => frame(Floor::pop_frame(s, words, cells, q.instance)),
-        3 => offset(Floor::replace_frame(s, words, cells, &asked::replace(q))),
-        4 => hosted(Floor::prepare_host_frame(s, words, cells, &asked::host(q))),
-        _ => returned(Floor::return_prepare_host_frame(s, words, cells, &asked::return_host(q))),
+        3 => offset(Floor::replace_frame(s, words, cells, &arguments::replace(q))),
+        4 => hosted(Floor::prepare_host_frame(s, words, cells, &arguments::host(q))),
+        _ => returned(Floor::return_prepare_host_frame(s, words, cells, &arguments::return_host(q))),
     }
 }
 

@@ -2,7 +2,7 @@
 
 mod changed;
 mod flags;
-mod good;
+pub mod good;
 mod room;
 pub mod spelled;
 

@@ -7,6 +7,7 @@ mod million;
 mod odd;
 mod parts;
 mod records;
+mod rows;
 mod traces;
 
 use super::bytes::{Fields, record};
@@ -27,8 +28,9 @@ pub fn make(maker: &mut Maker) -> Made<()> {
     odd::make(maker)?;
     maker.file(
         "replays-2",
-        "Replays: whole traces and their first bytes, traces in parts, and a million records.",
+        "Replays: records with a number that their kind has not, whole traces and their first bytes, traces in parts, and a million records.",
     );
+    rows::make(maker)?;
     traces::make(maker)?;
     parts::make(maker)?;
     million::make(maker)

@@ -1,5 +1,5 @@
--- The three demands. Assumes nothing.
-use Rattle.demands.specs.Demands.{Demand1, Demand2, Demand3}
+-- The three demands, and the requests. Assumes nothing.
+use Rattle.demands.specs.Demands.{Demand1, Demand2, Demand3, Request13}
 use Rattle.demands.proofs.Answers.{requests-refused, requests-follow, histories-follow}
 use Rattle.demands.proofs.AsTheyCame.{numbers-asked, states-as-they-came, words-as-they-came, runs-as-they-came}
 use Rattle.demands.proofs.Openings.{openings-answered}
@@ -8,6 +8,7 @@ use Rattle.demands.proofs.Records.{records-read, records-written, reque
 use Rattle.demands.proofs.Registers.{registers-handed-back, registers-read}
 use Rattle.demands.proofs.Parts.{parts-inside, routine-inside, parts-told}
 use Rattle.demands.proofs.Returned.{calls-return, calls-in-traces}
+use Rattle.demands.proofs.TailCalls.{tails-keep, tails-in-traces}
 
 pub demand-1 : Demand1
 demand-1 = (
@@ -31,3 +32,6 @@ demand-2 = (requests-follow, histories-follow, records-read-back, numbers-read-b
 
 pub demand-3 : Demand3
 demand-3 = (calls-return, calls-in-traces, parts-inside, routine-inside)
+
+pub request-13 : Request13
+request-13 = (tails-keep, tails-in-traces)

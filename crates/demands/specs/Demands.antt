@@ -1,10 +1,14 @@
--- The three demands, a statement each, by the public functions' own promises. An audit signs these; the rest is checked by the machine.
+-- The three demands, and document 02's requests that are laws, a statement each, by the public functions' own promises. An audit signs these; the rest is
+-- checked by the machine.
 --     Demand1     any state, request, bytes and lent buffers get an answer. A refusal has its number and its place in document 01's order, is given
 --                 exactly then, and changes no cell, frame or state. (That every public function of every library answers every input, with no
 --                 `requires`, and that its promise allows one outcome, is `Settled`, of each: proofs/Functions.antt)
 --     Demand2     every accepted request gives what document 01's definitions say. A trace record written reads back as the same request
 --     Demand3     a caller's frame and a current instance; a call is accepted; any requests follow that never take the depth below the callee's; a
 --                 return ends it. Then the caller is as it was
+--     Request13   document 02, T-13: any run of replaces, with sync, set, restore and register sync among them, leaves the depth, top start and all older
+--                 frames the same; `len` is the largest that was reached; the debt, if it was empty with current instance A, is empty exactly while no
+--                 other instance was named, and A from then on; one accepted return then restores A
 use Rattle.demands.specs.Answers.{RequestsRefused, RequestsFollow, HistoriesFollow}
 use Rattle.demands.specs.AsTheyCame.{NumbersAsked, StatesAsTheyCame, WordsAsTheyCame, RunsAsTheyCame}
 use Rattle.demands.specs.Openings.{OpeningsAnswered}
@@ -13,6 +17,7 @@ use Rattle.demands.specs.Records.{RecordsRead, RecordsWritten, RequestsD
 use Rattle.demands.specs.Registers.{RegistersBack, RegistersRead}
 use Rattle.demands.specs.Parts.{PartsInside, RoutineInside, PartsTold}
 use Rattle.demands.specs.Returned.{CallsReturn, CallsInTraces}
+use Rattle.demands.specs.TailCalls.{TailsKeep, TailsInTraces}
 
 abbrev pub Demand1 : Type 0
 Demand1 =
@@ -53,3 +58,8 @@ Demand3 =
     -- what hosts write through the parts that they are lent lies there
     × PartsInside
     × RoutineInside
+
+abbrev pub Request13 : Type 0
+Request13 =
+    TailsKeep
+    × TailsInTraces

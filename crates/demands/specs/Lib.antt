@@ -7,6 +7,7 @@ pub mod Leaves
 pub mod Records
 pub mod Registers
 pub mod Returned
+pub mod TailCalls
 pub mod Parts
 pub mod Settled
 pub mod Meetings

@@ -2,6 +2,7 @@ pub mod Records
 pub mod Work
 pub mod Spent
 pub mod Resumed
+pub mod Tailing
 pub mod Pinned
 pub mod Packing
 pub mod Arms

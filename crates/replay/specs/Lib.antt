@@ -3,6 +3,7 @@ pub mod Work
 pub mod Running
 pub mod Spent
 pub mod Resumed
+pub mod Tailing
 pub mod Pinned
 pub mod Turns
 pub mod Packing

@@ -1,5 +1,5 @@
 -- One name that opens all that a computed table looks through: `unfolding computing` opens what its line names, and what their lines do.
--- Only the tables that the checker computes say so (Cases, Limits, Reached; tools/walls). Assumes nothing.
+-- Only the tables that the checker computes say so (Cases, Limits, Reached, TailWorlds; tools/walls). Assumes nothing.
 use Rattle.choice.specs.Choose.{choose}
 use Rattle.frames.specs.Rows.{tooFewWords, rowAt, putRow, putIp, brokenRow}
 use Rattle.frames.specs.Debts.{newRow, debtOf, owingOf, carriedOf}

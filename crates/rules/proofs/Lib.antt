@@ -12,8 +12,10 @@ pub mod Pinned
 pub mod SoundMoves
 pub mod Soundness
 pub mod Standing
+pub mod Tails
 pub mod Unwinding
 pub mod Verdicts
 pub mod Cases
 pub mod Limits
 pub mod Reached
+pub mod TailWorlds

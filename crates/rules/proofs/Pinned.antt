@@ -1,5 +1,5 @@
 -- Each record is what is written out, field by field. Assumes nothing.
-use Rattle.rules.specs.Pinned.{ResumedPinned, CalledPinned, SoundPinned}
+use Rattle.rules.specs.Pinned.{ResumedPinned, CalledPinned, SoundPinned, TailsPinned, NothingOwedPinned, DebtPinned}
 
 pub resumed-pinned : ResumedPinned
 resumed-pinned w A p s es v i t = (
@@ -45,3 +45,18 @@ called-pinned w A q es r i = (
 
 pub sound-pinned : SoundPinned
 sound-pinned w = (λ h. (h .state, h .frames), λ h. record { state = h .0; frames = h .1 })
+
+pub tails-pinned : TailsPinned
+tails-pinned w qs v = (
+  λ h. (h .same-depth, h .same-start, h .older-frames, h .largest-len),
+  λ h. record { same-depth = h .0; same-start = h .1; older-frames = h .2; largest-len = h .3 },
+)
+
+pub nothing-owed-pinned : NothingOwedPinned
+nothing-owed-pinned w A = (λ h. (h .no-debt, h .has-instance), λ h. record { no-debt = h .0; has-instance = h .1 })
+
+pub debt-pinned : DebtPinned
+debt-pinned w A qs v = (
+  λ h. (h .empty-while, h .owed-since, h .owed-on, h .return-restores),
+  λ h. record { empty-while = h .0; owed-since = h .1; owed-on = h .2; return-restores = h .3 },
+)

@@ -1,6 +1,7 @@
 -- The callee's frame stands: every accepted request that leaves it there keeps what holds since the call (`Unwinding`), and none writes a cell before
 -- the newest frame's start. Assumes nothing.
 --     top-start                      the start of the newest frame, where there is one
+--     top-there                      its row is there, where it breaks no rule
 --     stored-below, stored-top       the rows after an ip was stored in the newest frame
 --     debt-made-good                 what a return leaves current, where a frame is left
 --     Standing                       what holds of a world since the call; `callee-below` that the newest frame then starts no earlier than the callee
@@ -55,7 +56,7 @@ module _ (w : World) (passed : brokenTop w ≡ false) where
   rows-enough : tooFewWords (length (w .words)) (w .state .depth) ≡ false
   rows-enough = good-words w (top-good w passed)
 
-  top-there : 0 < w .state .count → RowThere (w .state .depth) (w .words) (w .state .count - 1)
+  pub top-there : 0 < w .state .count → RowThere (w .state .depth) (w .words) (w .state .count - 1)
   top-there some = let within = top-good w passed .count-within in (rows-enough, omega arith)
 
   -- there is room for one more

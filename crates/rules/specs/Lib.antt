@@ -15,4 +15,6 @@ pub mod Rules
 pub mod Shared
 pub mod Sound
 pub mod Syncs
+pub mod Tails
+pub mod TailWorlds
 pub mod World

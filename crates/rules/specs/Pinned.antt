@@ -3,22 +3,28 @@
 --     ResumedPinned     all that follows by the return theorem
 --     CalledPinned      all that it assumes
 --     SoundPinned       what a sound world is
+--     TailsPinned, DebtPinned       all that follows of a run of tail calls, and of its debt
+--     NothingOwedPinned             all that the debt's part assumes
 use mathlib.Core.Path.{_≡_}
-use mathlib.Core.Bool.{false}
+use mathlib.Core.Bool.{true, false}
 use mathlib.Core.Logic.{_↔_}
 use mathlib.Core.List.{List}
 use Prim.Native.Nat.{ℕ, _-_, _<_}
-use Rattle.given.specs.declared.Given.the-variants.{Value}
+use Rattle.given.specs.declared.Given.the-variants.{Absent, Value}
 use Rattle.frames.specs.Rows.{withIp, brokenRow}
 use Rattle.frames.specs.Debts.{debtOf}
 use Rattle.rules.specs.declared.PushArgs.{PushArgs}
+use Rattle.rules.specs.declared.ReplaceArgs.{ReplaceArgs}
 use Rattle.rules.specs.declared.Request.{Request}
+use Rattle.rules.specs.declared.Asked.the-variants.{Traced}
 use Rattle.rules.specs.World.{World, frameAt, topFrame, cellAt, topStart}
 use Rattle.rules.specs.Answers.{After}
 use Rattle.rules.specs.Broken.{brokenState}
+use Rattle.rules.specs.Rules.{answered}
 use Rattle.rules.specs.Sound.{Sound}
-use Rattle.rules.specs.Events.{Event}
+use Rattle.rules.specs.Events.{Event, ranThrough}
 use Rattle.rules.specs.Returning.{Accepted, theCall, afterCall, NeverBelow, Unwritten, Gives, theReturn, CalledAndReturned, CallerResumed}
+use Rattle.rules.specs.Tails.{AllTails, endsOf, greatest, otherNamed, TailsKept, NothingOwed, DebtKept}
 
 abbrev pub ResumedPinned : Type 0
 ResumedPinned =
@@ -50,3 +56,26 @@ SoundPinned =
     (w : World) → Sound w
     ↔ ((brokenState w ≡ false)
     × ((i : ℕ) → i < w .state .count → brokenRow (frameAt w i) (w .state .len) ≡ false))
+
+abbrev pub TailsPinned : Type 0
+TailsPinned =
+    (w : World) (qs : List ReplaceArgs) (v : World) → TailsKept w qs v
+    ↔ ((v .state .count ≡ w .state .count)
+    × (topStart v ≡ topStart w)
+    × ((j : ℕ) → j < w .state .count - 1 → frameAt v j ≡ frameAt w j)
+    × (v .state .len ≡ greatest (w .state .len) (endsOf (topStart w) qs)))
+
+abbrev pub NothingOwedPinned : Type 0
+NothingOwedPinned =
+    (w : World) (A : ℕ) → NothingOwed w A
+    ↔ ((debtOf (topFrame w) ≡ Absent)
+    × (w .state .current ≡ Value A))
+
+abbrev pub DebtPinned : Type 0
+DebtPinned =
+    (w : World) (A : ℕ) (qs : List ReplaceArgs) (v : World) → DebtKept w A qs v
+    ↔ ((debtOf (topFrame v) ≡ Absent ↔ otherNamed A qs ≡ false)
+    × (debtOf (topFrame v) ≡ Value A ↔ otherNamed A qs ≡ true)
+    × (otherNamed A qs ≡ true → (fs : List Event) → AllTails fs → debtOf (topFrame (ranThrough v fs)) ≡ Value A)
+    × (1 < w .state .count → (r : Request) (i : ℕ) → Gives r i → Accepted (answered v (Traced r))
+    → answered v (Traced r) .world .state .current ≡ Value A))

@@ -1,8 +1,9 @@
 //! `beside mission`: document 01's largest sizes, ours beside the Rust and the reading, within the memory that the mission has.
 //!
-//! Full depth, full length, one more of each refused, and every frame handed back as it was put down.
+//! Full depth, full length, one more of each refused, and every frame handed back as it was put down; and a million tail calls in one frame.
 
 mod climb;
+mod tails;
 mod worlds;
 
 use self::climb::{CELLS, Climb, DEPTH};
@@ -31,7 +32,7 @@ pub fn run(args: &[String]) -> Verdict {
 
 /// How many requests and openings there were, and the peak of memory in MiB.
 pub fn compared() -> Result<(u64, u64), String> {
-    let requests = openings()? + full()? + without_the_last_cell()?;
+    let requests = tails::run()? + openings()? + full()? + without_the_last_cell()?;
     let peak = peak::kib("self")?.div_ceil(1024);
     if peak > MOST_MIB {
         return Err(format!("the peak of memory is {peak} MiB, above {MOST_MIB}"));

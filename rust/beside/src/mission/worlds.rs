@@ -13,8 +13,13 @@ pub struct Worlds {
 
 impl Worlds {
     pub fn open(opening: &Opening) -> Result<Self, String> {
+        Self::among(opening, |_| true)
+    }
+
+    /// The reading and the parties of these names.
+    pub fn among(opening: &Opening, chosen: impl Fn(&str) -> bool) -> Result<Self, String> {
         let (number, reading) = opened(opening);
-        let parties = all(opening).into_iter();
+        let parties = all(opening).into_iter().filter(|(name, _)| chosen(name));
         let parties = parties.map(|(name, opened)| opened.map_err(|number| format!("{name} opens with {number}, not 0")));
         let parties = parties.collect::<Result<_, _>>()?;
         let worlds = Self {
@@ -41,24 +46,30 @@ impl Worlds {
 
     /// A step that all must answer so.
     pub fn take(&mut self, step: &Step, wanted: Answer) -> Result<(), String> {
+        let read = self.answer(step)?;
+        match read == wanted {
+            true => Ok(()),
+            false => Err(format!("step {}, {step:?}: all answer {read}, not {wanted}", self.steps)),
+        }
+    }
+
+    /// What the reading answers, and all others with it.
+    pub fn answer(&mut self, step: &Step) -> Result<Answer, String> {
         self.steps += 1;
-        let number = self.steps;
         let read = match step {
             Step::Ask(request) => self.reading.ask(request),
+            Step::Registers(regs) => self.reading.sync_registers(*regs),
             Step::Part { frame, .. } => self.reading.host_part(frame),
-            _ => return Err("a run at these sizes asks and looks at host parts".to_string()),
+            Step::Trace(..) => return Err("a run at these sizes has no trace among its steps".to_string()),
         };
-        let different = |name: &str, found: Answer| format!("step {number}, {step:?}: {name} answers {found}, not {wanted}");
-        if read != wanted {
-            return Err(different("the reading", read));
-        }
         for party in &mut self.parties {
             let found = party.take(step).map_err(|why| format!("{}: {why}", party.name()))?;
-            if found != wanted {
-                return Err(different(party.name(), found));
+            if found != read {
+                let (number, name) = (self.steps, party.name());
+                return Err(format!("step {number}, {step:?}: {name} answers {found}, and the reading {read}"));
             }
         }
-        Ok(())
+        Ok(read)
     }
 
     /// State, words and cells of all parties are as the reading has them.

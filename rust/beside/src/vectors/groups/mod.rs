@@ -15,6 +15,7 @@ mod requests;
 mod returns;
 mod scene;
 mod states;
+mod tails;
 
 use super::maker::{Made, Maker};
 
@@ -26,6 +27,7 @@ pub fn make(maker: &mut Maker) -> Made<()> {
     states::make(maker)?;
     registers::make(maker)?;
     returns::make(maker)?;
+    tails::make(maker)?;
     records::make(maker)?;
     requests::make(maker)?;
     replays::make(maker)?;

@@ -1,7 +1,7 @@
 /* Cattlecleat: the C face of the proved call stack. For x86-64 with the System V calling convention only. C99, and C++ as well.
  * `./cattlecleat archive`, in the repository, proves the archive and writes target/lib/libcattlecleat.a, with this header beside it; a
  * program links it and the C library alone: cc -I target/lib program.c target/lib/libcattlecleat.a
- * The words and numbers are those of document 01, 'The rules and what will be built'.
+ * The words and numbers are those of document 01, 'The rules and what will be built'; 22 is document 02's, 'Later customer requests'.
  *
  * Asked of the caller, of each function alike, and nothing else:
  *   - a pointer and its length tell the truth: so many uint64_t (or bytes) may be read there, and written where the pointer is not const;
@@ -13,10 +13,10 @@
  * The state goes in by value and comes back with the answer, or it is lent and stays where it is: each request has a function of both
  * sorts, and the second is faster. Frames lie in `words`, CATTLECLEAT_FRAME_WORDS words per frame, oldest first: ip, start,
  * debt flag (0 or 1) and debt instance. In a struct, a flag of 0 reads as none whatever the number beside it, any other as given. A refusal
- * hands state and slot back number for number as they came, and a replay hands back as it came whatever the trace left as it was; else a
- * flag that comes back is 0 or 1, and a 0 stands beside a 0.
+ * hands state, slot and tape back number for number as they came, and a replay hands back as it came whatever the trace left as it was;
+ * else a flag that comes back is 0 or 1, and a 0 stands beside a 0.
  *
- * Answer numbers. On 2 and above the state, the done slot and all buffers are unchanged, and every other number handed back is 0.
+ * Answer numbers. On 2 and above the state, the done slot, the tape and all buffers are unchanged, and every other number handed back is 0.
  *    0  done
  *    1  done, and the last frame is gone
  *    2  push with frame count = D; or a needed length above M
@@ -34,6 +34,7 @@
  *   13  nothing to take
  *   14  opening beyond the limits, or too few frame words
  *   15  ip below base, or the aligned address above the largest uint64_t
+ *   22  a nonempty block after an end without a stop
  * D is the depth limit, at most 65,536 frames; M the height limit, at most 8,388,608 bytes, kept in cells of 8 bytes; L the number of cells
  * lent, at most 1,048,576.
  */
@@ -224,6 +225,20 @@ typedef struct cattlecleat_run {
     uint64_t cost;      /* of the record that it stopped before */
 } cattlecleat_run;
 
+/* A replay in its course whose trace arrives in blocks. To begin one: a run that begins, and 0 for the rest. */
+typedef struct cattlecleat_tape {
+    cattlecleat_run run;
+    uint8_t kept[CATTLECLEAT_RECORD_BYTES]; /* the bytes of an unfinished record; behind those held they are not looked at */
+    size_t held;                            /* how many bytes of it are held; more than 39 count as 39 */
+    uint64_t end_flag;                      /* whether the end was told */
+} cattlecleat_tape;
+
+/* A number, and the tape after it. */
+typedef struct cattlecleat_fed {
+    uint64_t number;
+    cattlecleat_tape tape;
+} cattlecleat_fed;
+
 /* What was read at a place of a trace. */
 typedef struct cattlecleat_read {
     uint64_t number;
@@ -342,6 +357,23 @@ cattlecleat_part cattlecleat_host_part_in_place(const cattlecleat_state *s, cons
  * stopped run whole. A stop that is new, and a current instance that is another, have a flag of 1; none in place of one is 0 and 0. */
 cattlecleat_run cattlecleat_replay(cattlecleat_run run, uint64_t *words, size_t words_len, uint64_t *cells, size_t cells_len,
                                    const uint8_t *trace, size_t trace_len);
+
+/* Replays the next block of a trace, which may be of any length and cut a record anywhere. In this order:
+ *   - the run has stopped: nothing is done, and the tape says the stop again;
+ *   - the block is empty: nothing is done;
+ *   - the end was told: 22;
+ *   - else the bytes held and those of the block are taken together. Their whole records are replayed, as by cattlecleat_replay, and the
+ *     bytes left over, at most 39, are held for the next block; where the run stops, none are held.
+ * So whatever the cuts, blocks and an end leave the words and cells that cattlecleat_replay of the whole trace leaves, and a run that says
+ * the same; a short record, and a stop before it, come at the end alone. A tape that nothing moves comes back number for number. Else its
+ * run comes back as from cattlecleat_replay, the bytes behind those held are 0, and `end_flag` is as it came. Answers 0; 22. */
+cattlecleat_fed cattlecleat_feed(cattlecleat_tape t, uint64_t *words, size_t words_len, uint64_t *cells, size_t cells_len,
+                                 const uint8_t *block, size_t block_len);
+
+/* Tells that the trace has ended: bytes held are a short record, which is replayed, and none are held any more. After a stop, and after an
+ * earlier end, nothing is done, and the tape comes back number for number; else its run comes back as from cattlecleat_replay, `kept` and
+ * `held` are 0, and `end_flag` is 1. An end that itself stops the run is a stop: blocks and ends after it only say it again. */
+cattlecleat_tape cattlecleat_finish(cattlecleat_tape t, uint64_t *words, size_t words_len, uint64_t *cells, size_t cells_len);
 
 /* The request of the record that begins at `at`, which may lie anywhere, beyond the end too. Answers 0; 10 with a request of zeros. */
 cattlecleat_read cattlecleat_read_record(const uint8_t *bytes, size_t bytes_len, size_t at);

@@ -95,6 +95,7 @@ static void check_sizes(void) {
     CHECK(sizeof(cattlecleat_registers) == 24 && sizeof(cattlecleat_host_frame) == 24 && sizeof(cattlecleat_state) == 88);
     CHECK(sizeof(cattlecleat_request) == 64 && sizeof(cattlecleat_answer) == 168 && sizeof(cattlecleat_part) == 32);
     CHECK(sizeof(cattlecleat_run) == 128 && sizeof(cattlecleat_read) == 72 && sizeof(cattlecleat_aligned) == 16);
+    CHECK(sizeof(cattlecleat_tape) == 184 && sizeof(cattlecleat_fed) == 192);
     CHECK(sizeof(cattlecleat_reason) == 16 && sizeof(cattlecleat_done) == 40);
     CHECK(sizeof(cattlecleat_push) == 48 && sizeof(cattlecleat_replace) == 32 && sizeof(cattlecleat_host) == 24);
     CHECK(sizeof(cattlecleat_return_host) == 16 && sizeof(cattlecleat_offset) == 16 && sizeof(cattlecleat_frame) == 32);
@@ -225,6 +226,101 @@ static void check_records(void) {
     cattlecleat_run poor = {.state = w.state, .fuel = 4};
     poor = cattlecleat_replay(poor, w.words, WORDS, w.cells, CELLS, trace, sizeof trace);
     CHECK(poor.spent == 3 && poor.number == 1 && poor.stop_flag == 1 && poor.cost == 2 && poor.state.count == 1);
+}
+
+static int same_run(cattlecleat_run a, cattlecleat_run b) {
+    return same_state(a.state, b.state) && a.number == b.number && a.fuel == b.fuel && a.spent == b.spent && a.stop_flag == b.stop_flag
+        && a.cost == b.cost;
+}
+
+static int same_tape(cattlecleat_tape a, cattlecleat_tape b) {
+    return same_run(a.run, b.run) && memcmp(a.kept, b.kept, sizeof a.kept) == 0 && a.held == b.held && a.end_flag == b.end_flag;
+}
+
+static cattlecleat_tape begun(uint64_t fuel) {
+    open_world();
+    cattlecleat_tape t = {.run = {.state = w.state, .fuel = fuel}};
+    return t;
+}
+
+static cattlecleat_fed feed(cattlecleat_tape t, const uint8_t *block, size_t block_len) {
+    return cattlecleat_feed(t, w.words, WORDS, w.cells, CELLS, block, block_len);
+}
+
+static cattlecleat_tape finish(cattlecleat_tape t) {
+    return cattlecleat_finish(t, w.words, WORDS, w.cells, CELLS);
+}
+
+/* P and half of Q, which is a short record: what comes of them at once. */
+#define TAPE_BYTES (CATTLECLEAT_RECORD_BYTES + 20)
+
+static void write_tape(uint8_t *trace) {
+    uint8_t whole[2 * CATTLECLEAT_RECORD_BYTES];
+    CHECK(cattlecleat_write_record(whole, sizeof whole, 0, P) == 0);
+    CHECK(cattlecleat_write_record(whole, sizeof whole, CATTLECLEAT_RECORD_BYTES, Q) == 0);
+    memcpy(trace, whole, TAPE_BYTES);
+}
+
+/* Cut anywhere, blocks and an end come to what the trace comes to at once. */
+static void check_blocks(void) {
+    const uint8_t zeros[CATTLECLEAT_RECORD_BYTES] = {0};
+    uint8_t trace[TAPE_BYTES];
+    write_tape(trace);
+    cattlecleat_run at_once = cattlecleat_replay(begun(9).run, w.words, WORDS, w.cells, CELLS, trace, sizeof trace);
+    CHECK(at_once.number == 2 && at_once.spent == 4 && at_once.stop_flag == 0 && at_once.state.len == 4);
+    for (size_t cut = 0; cut <= sizeof trace; cut++) {
+        cattlecleat_fed a = feed(begun(9), trace, cut);
+        CHECK(a.number == 0 && a.tape.run.number == cut / 40 && a.tape.held == cut % 40);
+        CHECK(memcmp(a.tape.kept, trace + cut - cut % 40, cut % 40) == 0);
+        a = feed(a.tape, trace + cut, sizeof trace - cut);
+        CHECK(a.number == 0 && a.tape.run.number == 1 && a.tape.held == 20 && a.tape.end_flag == 0);
+        cattlecleat_tape t = finish(a.tape);
+        CHECK(same_run(t.run, at_once) && memcmp(t.kept, zeros, sizeof zeros) == 0 && t.held == 0 && t.end_flag == 1);
+        CHECK(w.words[0] == 100 && w.cells[1] == 0 && w.cells[2] == 0xABABABABABABABAB);
+    }
+}
+
+/* After an end: a second one and an empty block change nothing, another block is 22. */
+static void check_ended(void) {
+    uint8_t trace[TAPE_BYTES];
+    write_tape(trace);
+    cattlecleat_tape t = finish(feed(begun(9), trace, sizeof trace).tape);
+    t.end_flag = 7; /* reads as told, and comes back as 7 */
+    t.held = SIZE_MAX;
+    CHECK(same_tape(finish(t), t));
+    cattlecleat_fed a = feed(t, trace, 0);
+    CHECK(a.number == 0 && same_tape(a.tape, t));
+    a = feed(t, trace, 1);
+    CHECK(a.number == 22 && same_tape(a.tape, t) && same_tape(finish(a.tape), t));
+}
+
+/* After a stop nothing is held, and blocks and ends only say it again: in a block, and at the end. */
+static void check_stopped(void) {
+    uint8_t trace[TAPE_BYTES];
+    write_tape(trace);
+    cattlecleat_fed a = feed(begun(2), trace, sizeof trace);
+    CHECK(a.number == 0 && a.tape.run.number == 0 && a.tape.run.stop_flag == 1 && a.tape.run.cost == 3 && a.tape.held == 0);
+    CHECK(same_tape(finish(a.tape), a.tape) && same_tape(feed(a.tape, trace, 5).tape, a.tape));
+    a = feed(begun(3), trace, sizeof trace);
+    CHECK(a.number == 0 && a.tape.run.stop_flag == 0 && a.tape.held == 20);
+    cattlecleat_tape t = finish(a.tape);
+    CHECK(t.run.number == 1 && t.run.spent == 3 && t.run.stop_flag == 1 && t.run.cost == 1 && t.held == 0);
+    a = feed(t, trace, sizeof trace);
+    CHECK(a.number == 0 && same_tape(a.tape, t) && same_tape(finish(t), t));
+}
+
+/* More than 39 held count as 39. */
+static void check_held(void) {
+    uint8_t record[CATTLECLEAT_RECORD_BYTES];
+    cattlecleat_tape t = begun(9);
+    CHECK(cattlecleat_write_record(record, sizeof record, 0, P) == 0);
+    memcpy(t.kept, record, sizeof record);
+    t.held = SIZE_MAX;
+    CHECK(finish(t).run.number == 1 && finish(t).run.spent == 1 && finish(t).run.state.count == 0 && finish(t).held == 0);
+    t.kept[39] = 0xAB;
+    cattlecleat_fed a = feed(t, record + 39, 1);
+    CHECK(a.number == 0 && a.tape.run.number == 1 && a.tape.run.spent == 3 && a.tape.run.state.current == 1);
+    CHECK(a.tape.held == 0 && a.tape.kept[0] == 0 && a.tape.kept[39] == 0);
 }
 
 /* K10, and its refusals. */
@@ -492,6 +588,10 @@ int main(void) {
     check_records();
     check_unlawful();
     check_handed_back();
+    check_blocks();
+    check_ended();
+    check_stopped();
+    check_held();
     check_align();
     check_slot();
     check_conversions();

@@ -14,12 +14,15 @@ pub const WORDS: usize = 256;
 
 pub const CELLS: usize = 4096;
 
-// How many whole records a block of input is; a block of text has room for as many of the longest lines.
+// How many records' bytes one read gives at most. With fewer bytes than a record held they are no more records: the text has room for as many of the
+// longest lines, and behind them for the last lines, of a short record, of a stop and of the sum.
 const RECORDS: usize = 1600;
 
 pub const BLOCK: usize = RECORDS * RECORD_SIZE;
 
-pub const TEXT: usize = RECORDS * LONGEST_LINE;
+pub const LAST_LINES: usize = 3 * LONGEST_LINE;
 
-// More blocks than the fuel can last: a record costs at least 1, so a full block at least RECORDS.
-pub const BLOCKS: u64 = FUEL / RECORDS as u64 + 1;
+pub const TEXT: usize = RECORDS * LONGEST_LINE + LAST_LINES;
+
+// More reads than the fuel can last: each gives a byte at least, RECORD_SIZE bytes are a record, and a record costs at least 1.
+pub const READS: u64 = (FUEL + 1) * RECORD_SIZE as u64;

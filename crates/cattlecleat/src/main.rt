@@ -1,5 +1,5 @@
 // cattlecleat: replays a trace and prints document 01's listing of it.
-mod input;
+mod gathering;
 mod limits;
 mod output;
 mod replaying;

@@ -1,28 +1,23 @@
-// A replay of standard input, block by block. The lines of a block are written at once, and none is begun that is not whole.
-use crate::input::Filled;
-use crate::input::fill;
+// A replay of standard input, block by block as reads give them. No line is written that is not whole.
+use crate::gathering::Gathered;
+use crate::gathering::Went;
+use crate::gathering::list_bytes;
+use crate::gathering::say_end;
+use crate::gathering::say_unread;
 use crate::limits::BLOCK;
-use crate::limits::BLOCKS;
 use crate::limits::CELLS;
 use crate::limits::DEPTH;
 use crate::limits::FUEL;
 use crate::limits::HEIGHT;
+use crate::limits::READS;
 use crate::limits::TEXT;
 use crate::limits::WORDS;
 use crate::say;
-use given::is_given;
-use listing::list_block;
-use listing::list_end;
-use replay::Run;
+use crate::wait;
 use replay::start;
 use stack::open;
-
-// A run after a block: there is more to come, the trace is at its end or the run has stopped, or something could not be read or written.
-enum Went {
-    On(Run),
-    ToEnd(Run),
-    Wrong,
-}
+use tape::Tape;
+use tape::begin;
 
 pub fn run() {
     let mut words = [0u64; WORDS];
@@ -32,74 +27,74 @@ pub fn run() {
     replay_input(&mut words, &mut cells, &mut block, &mut text);
 }
 
-// The fuel does not last for BLOCKS full blocks, so one of them is the last; were it not, that is said.
+// The fuel does not last for READS reads, and the text has room for any block: so one of them is the last; were it not, that is said.
 fn replay_input(words: &mut [u64], cells: &mut [u64], block: &mut [u8], text: &mut [u8]) {
     let opened = open(HEIGHT, DEPTH, words, cells);
-    let mut run = start(opened.state, FUEL);
-    let mut left = BLOCKS;
+    let mut tape = begin(start(opened.state, FUEL));
+    let mut used = 0;
+    let mut left = READS;
     while 0 < left {
         left = left - 1;
-        match replay_block(run, words, cells, block, text) {
-            Went::On(next) => {
-                run = next;
-            }
-            Went::ToEnd(last) => {
-                say_end(last, text);
-                return;
-            }
-            Went::Wrong => {
-                return;
-            }
+        let next = replay_block(tape, words, cells, block, text, used);
+        tape = next.tape;
+        used = next.used;
+        let went = next.went;
+        if !is_on(went) {
+            finish(tape, words, cells, text, used, went);
+            return;
         }
     }
     say::unfinished();
 }
 
+fn is_on(went: Went) -> bool {
+    match went {
+        Went::On => true,
+        Went::ToEnd | Went::Full | Went::Unread | Went::Unwritten => false,
+    }
+}
+
+// The next block: what one read gives, nothing at the end of the trace.
 fn replay_block(
-    run: Run,
+    tape: Tape,
     words: &mut [u64],
     cells: &mut [u64],
     block: &mut [u8],
     text: &mut [u8],
-) -> Went {
-    match fill(block) {
-        Filled::Bytes(n) => list_bytes(run, words, cells, block, n, text),
-        Filled::Failed => {
-            say::unreadable();
-            Went::Wrong
-        }
+    used: usize,
+) -> Gathered {
+    let got = wait::read(block);
+    if got < 0 {
+        return Gathered {
+            tape,
+            used,
+            went: Went::Unread,
+        };
     }
+    let n = io::count(got, block);
+    if n == 0 {
+        return Gathered {
+            tape,
+            used,
+            went: Went::ToEnd,
+        };
+    }
+    list_bytes(tape, words, cells, &block[..n], text, used)
 }
 
-// The first n bytes of a block. One that is not full is the last.
-fn list_bytes(
-    run: Run,
+// Says the end, or why there is none. Lines that wait are written first, also where the next block could not be read.
+fn finish(
+    tape: Tape,
     words: &mut [u64],
     cells: &mut [u64],
-    block: &[u8],
-    n: usize,
     text: &mut [u8],
-) -> Went {
-    let end = say::least(n, block.len());
-    let listed = list_block(run, words, cells, &block[0..end], text);
-    if !say::listing(text, listed.used) {
-        say::unwritable();
-        return Went::Wrong;
-    }
-    let after = listed.run;
-    let stop = after.stop;
-    if is_given(stop) {
-        return Went::ToEnd(after);
-    }
-    if end < block.len() {
-        return Went::ToEnd(after);
-    }
-    Went::On(after)
-}
-
-fn say_end(run: Run, text: &mut [u8]) {
-    let used = list_end(run, text);
-    if !say::listing(text, used) {
-        say::unwritable();
+    used: usize,
+    went: Went,
+) {
+    match went {
+        Went::ToEnd => say_end(tape, words, cells, text, used),
+        Went::Unread => say_unread(text, used),
+        Went::On | Went::Full => say::unfinished(),
+        Went::Unwritten => say::unwritable(),
     }
 }

@@ -19,6 +19,7 @@ use Rattle.stack_hosts.proofs.Settled as stack-hosts-all
 use Rattle.lines.proofs.Settled as lines-all
 use Rattle.ask.proofs.Settled as ask-all
 use Rattle.replay.proofs.Settled as replay-all
+use Rattle.tape.proofs.Settled as tape-all
 use Rattle.listing.proofs.Settled as listing-all
 use Rattle.face.proofs.Settled as face-all
 use Rattle.face_leaves.proofs.Settled as face-leaves-all
@@ -165,8 +166,16 @@ use Rattle.replay.proofs.replay as replay-replay
 use Rattle.replay.proofs.run_next as replay-run-next
 use Rattle.replay.proofs.run_record as replay-run-record
 use Rattle.replay.proofs.start as replay-start
+use Rattle.tape.proofs.begin as tape-begin
+use Rattle.tape.proofs.cut_block as tape-cut-block
+use Rattle.tape.proofs.feed as tape-feed
+use Rattle.tape.proofs.finish as tape-finish
+use Rattle.tape.proofs.held_count as tape-held-count
+use Rattle.tape.proofs.hold as tape-hold
 use Rattle.listing.proofs.list_block as listing-list-block
 use Rattle.listing.proofs.list_end as listing-list-end
+use Rattle.listing.proofs.list_feed as listing-list-feed
+use Rattle.listing.proofs.list_finish as listing-list-finish
 use Rattle.face.proofs.part_told as face-part-told
 use Rattle.face.proofs.request_from as face-request-from
 use Rattle.face.proofs.request_to as face-request-to
@@ -200,6 +209,8 @@ use Rattle.face_ask.proofs.cattlecleat_ask as face-ask-cattlecleat-ask
 use Rattle.face_ask.proofs.cattlecleat_host_part as face-ask-cattlecleat-host-part
 use Rattle.face_ask.proofs.cattlecleat_open as face-ask-cattlecleat-open
 use Rattle.face_ask.proofs.cattlecleat_sync_registers as face-ask-cattlecleat-sync-registers
+use Rattle.face_replay.proofs.cattlecleat_feed as face-replay-cattlecleat-feed
+use Rattle.face_replay.proofs.cattlecleat_finish as face-replay-cattlecleat-finish
 use Rattle.face_replay.proofs.cattlecleat_replay as face-replay-cattlecleat-replay
 use Rattle.demands.specs.Settled.{Settled}
 
@@ -2163,6 +2174,90 @@ settled-replay-start = record {
       (s, refl);
 }
 
+pub settled-tape-begin :
+    Settled tape-begin.ended (λ M. tape-begin.clauses {M = M}) (λ κ r. r)
+settled-tape-begin = record {
+  Post = λ κ a r e. _;
+  asks-nothing = λ M 𝓤 H A mem run κ a g. refl;
+  asks-no-ghost = λ M 𝓤 H A mem run κ a. refl;
+  promises = λ M 𝓤 H A mem run κ a g r e. refl;
+  once = λ κ a r r′ ws ws′ p q.
+      let e = atExit tape-begin.ended κ a ws in
+      let e′ = atExit tape-begin.ended κ a ws′ in
+      let s = tape-all.begin-settled κ a r r′ e e′ p q in
+      (s, refl);
+}
+
+pub settled-tape-cut-block :
+    Settled tape-cut-block.ended (λ M. tape-cut-block.clauses {M = M}) (λ κ r. r)
+settled-tape-cut-block = record {
+  Post = λ κ a r e. _;
+  asks-nothing = λ M 𝓤 H A mem run κ a g. refl;
+  asks-no-ghost = λ M 𝓤 H A mem run κ a. refl;
+  promises = λ M 𝓤 H A mem run κ a g r e. refl;
+  once = λ κ a r r′ ws ws′ p q.
+      let e = atExit tape-cut-block.ended κ a ws in
+      let e′ = atExit tape-cut-block.ended κ a ws′ in
+      let s = tape-all.cut-block-settled κ a r r′ e e′ p q in
+      (s, refl);
+}
+
+pub settled-tape-feed :
+    Settled tape-feed.ended (λ M. tape-feed.clauses {M = M}) (λ κ r. r)
+settled-tape-feed = record {
+  Post = λ κ a r e. _;
+  asks-nothing = λ M 𝓤 H A mem run κ a g. refl;
+  asks-no-ghost = λ M 𝓤 H A mem run κ a. refl;
+  promises = λ M 𝓤 H A mem run κ a g r e. refl;
+  once = λ κ a r r′ ws ws′ p q.
+      let e = atExit tape-feed.ended κ a ws in
+      let e′ = atExit tape-feed.ended κ a ws′ in
+      let s = tape-all.feed-settled κ a r r′ e e′ p q in
+      (λ i. s i .0, λ i. (a .0, (at-last (a .1 .0) (s i .1 .0), (at-last (a .1 .1 .0) (s i .1 .1), (a .1 .1 .1 .0, tt)))));
+}
+
+pub settled-tape-finish :
+    Settled tape-finish.ended (λ M. tape-finish.clauses {M = M}) (λ κ r. r)
+settled-tape-finish = record {
+  Post = λ κ a r e. _;
+  asks-nothing = λ M 𝓤 H A mem run κ a g. refl;
+  asks-no-ghost = λ M 𝓤 H A mem run κ a. refl;
+  promises = λ M 𝓤 H A mem run κ a g r e. refl;
+  once = λ κ a r r′ ws ws′ p q.
+      let e = atExit tape-finish.ended κ a ws in
+      let e′ = atExit tape-finish.ended κ a ws′ in
+      let s = tape-all.finish-settled κ a r r′ e e′ p q in
+      (λ i. s i .0, λ i. (a .0, (at-last (a .1 .0) (s i .1 .0), (at-last (a .1 .1 .0) (s i .1 .1), tt))));
+}
+
+pub settled-tape-held-count :
+    Settled tape-held-count.ended (λ M. tape-held-count.clauses {M = M}) (λ κ r. r)
+settled-tape-held-count = record {
+  Post = λ κ a r e. _;
+  asks-nothing = λ M 𝓤 H A mem run κ a g. refl;
+  asks-no-ghost = λ M 𝓤 H A mem run κ a. refl;
+  promises = λ M 𝓤 H A mem run κ a g r e. refl;
+  once = λ κ a r r′ ws ws′ p q.
+      let e = atExit tape-held-count.ended κ a ws in
+      let e′ = atExit tape-held-count.ended κ a ws′ in
+      let s = tape-all.held-count-settled κ a r r′ e e′ p q in
+      (s, refl);
+}
+
+pub settled-tape-hold :
+    Settled tape-hold.ended (λ M. tape-hold.clauses {M = M}) (λ κ r. r)
+settled-tape-hold = record {
+  Post = λ κ a r e. _;
+  asks-nothing = λ M 𝓤 H A mem run κ a g. refl;
+  asks-no-ghost = λ M 𝓤 H A mem run κ a. refl;
+  promises = λ M 𝓤 H A mem run κ a g r e. refl;
+  once = λ κ a r r′ ws ws′ p q.
+      let e = atExit tape-hold.ended κ a ws in
+      let e′ = atExit tape-hold.ended κ a ws′ in
+      let s = tape-all.hold-settled κ a r r′ e e′ p q in
+      (s, refl);
+}
+
 pub settled-listing-list-block :
     Settled listing-list-block.ended (λ M. listing-list-block.clauses {M = M}) (λ κ r. r)
 settled-listing-list-block = record {
@@ -2189,6 +2284,34 @@ settled-listing-list-end = record {
       let e′ = atExit listing-list-end.ended κ a ws′ in
       let s = listing-all.list-end-settled κ a r r′ e e′ p q in
       (λ i. s i .0, λ i. (a .0, (at-last (a .1 .0) (s i .1), tt)));
+}
+
+pub settled-listing-list-feed :
+    Settled listing-list-feed.ended (λ M. listing-list-feed.clauses {M = M}) (λ κ r. r)
+settled-listing-list-feed = record {
+  Post = λ κ a r e. _;
+  asks-nothing = λ M 𝓤 H A mem run κ a g. refl;
+  asks-no-ghost = λ M 𝓤 H A mem run κ a. refl;
+  promises = λ M 𝓤 H A mem run κ a g r e. refl;
+  once = λ κ a r r′ ws ws′ p q.
+      let e = atExit listing-list-feed.ended κ a ws in
+      let e′ = atExit listing-list-feed.ended κ a ws′ in
+      let s = listing-all.list-feed-settled κ a r r′ e e′ p q in
+      (λ i. s i .0, λ i. (a .0, (at-last (a .1 .0) (s i .1 .0), (at-last (a .1 .1 .0) (s i .1 .1 .0), (a .1 .1 .1 .0, (at-last (a .1 .1 .1 .1 .0) (s i .1 .1 .1), tt))))));
+}
+
+pub settled-listing-list-finish :
+    Settled listing-list-finish.ended (λ M. listing-list-finish.clauses {M = M}) (λ κ r. r)
+settled-listing-list-finish = record {
+  Post = λ κ a r e. _;
+  asks-nothing = λ M 𝓤 H A mem run κ a g. refl;
+  asks-no-ghost = λ M 𝓤 H A mem run κ a. refl;
+  promises = λ M 𝓤 H A mem run κ a g r e. refl;
+  once = λ κ a r r′ ws ws′ p q.
+      let e = atExit listing-list-finish.ended κ a ws in
+      let e′ = atExit listing-list-finish.ended κ a ws′ in
+      let s = listing-all.list-finish-settled κ a r r′ e e′ p q in
+      (λ i. s i .0, λ i. (a .0, (at-last (a .1 .0) (s i .1 .0), (at-last (a .1 .1 .0) (s i .1 .1 .0), (at-last (a .1 .1 .1 .0) (s i .1 .1 .1), tt)))));
 }
 
 pub settled-face-part-told :
@@ -2651,6 +2774,34 @@ settled-face-ask-cattlecleat-sync-registers = record {
       let e′ = atExit face-ask-cattlecleat-sync-registers.ended κ a ws′ in
       let s = face-ask-all.cattlecleat-sync-registers-settled κ a r r′ e e′ p q in
       (s, refl);
+}
+
+pub settled-face-replay-cattlecleat-feed :
+    Settled face-replay-cattlecleat-feed.ended (λ M. face-replay-cattlecleat-feed.clauses {M = M}) (λ κ r. r)
+settled-face-replay-cattlecleat-feed = record {
+  Post = λ κ a r e. _;
+  asks-nothing = λ M 𝓤 H A mem run κ a g. refl;
+  asks-no-ghost = λ M 𝓤 H A mem run κ a. refl;
+  promises = λ M 𝓤 H A mem run κ a g r e. refl;
+  once = λ κ a r r′ ws ws′ p q.
+      let e = atExit face-replay-cattlecleat-feed.ended κ a ws in
+      let e′ = atExit face-replay-cattlecleat-feed.ended κ a ws′ in
+      let s = face-replay-all.cattlecleat-feed-settled κ a r r′ e e′ p q in
+      (λ i. s i .0, λ i. (a .0, (at-last (a .1 .0) (s i .1 .0), (at-last (a .1 .1 .0) (s i .1 .1), (a .1 .1 .1 .0, tt)))));
+}
+
+pub settled-face-replay-cattlecleat-finish :
+    Settled face-replay-cattlecleat-finish.ended (λ M. face-replay-cattlecleat-finish.clauses {M = M}) (λ κ r. r)
+settled-face-replay-cattlecleat-finish = record {
+  Post = λ κ a r e. _;
+  asks-nothing = λ M 𝓤 H A mem run κ a g. refl;
+  asks-no-ghost = λ M 𝓤 H A mem run κ a. refl;
+  promises = λ M 𝓤 H A mem run κ a g r e. refl;
+  once = λ κ a r r′ ws ws′ p q.
+      let e = atExit face-replay-cattlecleat-finish.ended κ a ws in
+      let e′ = atExit face-replay-cattlecleat-finish.ended κ a ws′ in
+      let s = face-replay-all.cattlecleat-finish-settled κ a r r′ e e′ p q in
+      (λ i. s i .0, λ i. (a .0, (at-last (a .1 .0) (s i .1 .0), (at-last (a .1 .1 .0) (s i .1 .1), tt))));
 }
 
 pub settled-face-replay-cattlecleat-replay :

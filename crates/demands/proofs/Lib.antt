@@ -1,4 +1,6 @@
 pub mod Heard
+pub mod Taken
+pub mod LinesTaken
 pub mod Links
 pub mod Answers
 pub mod AsTheyCame
@@ -10,5 +12,6 @@ pub mod Returned
 pub mod TailCalls
 pub mod Parts
 pub mod Meetings
+pub mod TapesKept
 pub mod Functions
 pub mod Demands

@@ -7,6 +7,7 @@ use mathlib.Core.Path.{_≡_, refl, sym, ap, subst, _∙_}
 use mathlib.Core.Bool.{Bool, true, false}
 use mathlib.Core.List.{List, [], _∷_, _++_}
 use Prim.Native.Nat.{ℕ, _≤_}
+use native.Mathlib.Omega.{arith}
 use lib.Dec.{leb, ltb}
 use lib.ListN.{length}
 use denote.Ref.{now}
@@ -23,14 +24,24 @@ use Rattle.replay.specs.Running.{Running, runningOf, ShownRan, stoppedBefore, a
 use Rattle.replay.specs.Turns.{ShownTurn, turnAt}
 use Rattle.replay.specs.Resumed.{DepthKept}
 use Rattle.replay.proofs.Spent.{RanVerdict, had-stopped, stops-before, goes-on, ran-verdict, recordCost, recordRan, stop-stays}
+use Rattle.tape.specs.Tapes.{Taping, tapingOf, ShownFed}
+use Rattle.tape.specs.AnyCuts.{bytesRun}
+use Rattle.tape.proofs.AnyCuts.{runs-its-bytes}
 use Rattle.listing.specs.Blocks.{blockRoom, ListedBlock, blockOf, blockWith, linesText, blockListed}
+use Rattle.listing.specs.declared.taped.ListedFeeding.{ListedFeeding}
+use Rattle.listing.specs.Taped.{ShownLines, fedLinesNumber}
+use Rattle.listing.proofs.Written.{fed-verdict, feed-unmoved, end-verdict, end-unmoved}
+use Rattle.listing.proofs.list_feed.Reads as list-feeds
+use Rattle.listing.proofs.list_finish.Reads as list-finishes
 use Rattle.face_ask.specs.Told.{ToldAnswer, afterTold}
 use Rattle.face_replay.specs.Runs.{runningFrom}
 use Rattle.face_replay.proofs.Backs.{replay-run-said}
 use Rattle.demands.specs.Heard.{worldSaid}
 use Rattle.demands.specs.Links.{eventsBy, eventsRan, entriesHere, entriesListed, Link, asked, by-host-store, by-routine, none-asked}
-use Rattle.demands.specs.Links.{put-in-place, by-cattlecleat-replay, by-replay, by-run-record, by-run-next, by-list-block}
+use Rattle.demands.specs.Links.{entriesComing, put-in-place, by-cattlecleat-replay, by-replay, by-run-record, by-run-next, by-list-block}
+use Rattle.demands.specs.Links.{came-next, no-room-to-feed, no-room-to-finish}
 use Rattle.demands.specs.Links.{History, history-end, link-then}
+use Rattle.demands.proofs.Taken.{taken-is, answer-leaves}
 use Rattle.demands.proofs.Heard.{answerSaid, numbers-said, heard-answered, part-step, routine-ran}
 
 -- ---- a trace
@@ -100,6 +111,19 @@ block-ran v bytes out = by (ltb (length out) (blockRoom (recordCount (length byt
     by true e = rw e refl
     by false e = rw e (replay-ran v bytes)
 
+-- without room nothing moves
+unfed : (κ : _) (a : _) (r : ListedFeeding) (e : _) → list-feeds.Post κ a r e → fedLinesNumber (r .fed) ≡ 19
+    → tapingOf (r .tape) (now (e .1 .0)) (now (e .1 .1 .0)) ≡ tapingOf (a .0) (now (a .1 .0)) (now (a .1 .1 .0))
+unfed κ a r e p none =
+    let number = ap (λ (s : ShownLines). s .number) p in
+    ap (λ (s : ShownLines). s .tape) p ∙ feed-unmoved _ _ _ (fed-verdict _ _ _) (let is = sym number ∙ none in omega arith) .0
+
+untold : (κ : _) (a : _) (r : ListedFeeding) (e : _) → list-finishes.Post κ a r e → fedLinesNumber (r .fed) ≡ 19
+    → tapingOf (r .tape) (now (e .1 .0)) (now (e .1 .1 .0)) ≡ tapingOf (a .0) (now (a .1 .0)) (now (a .1 .1 .0))
+untold κ a r e p none =
+    let number = ap (λ (s : ShownLines). s .number) p in
+    ap (λ (s : ShownLines). s .tape) p ∙ end-unmoved _ _ (end-verdict _ _) (let is = sym number ∙ none in omega arith) .0
+
 pub link-ran : {d : ℕ} {w u : World} {es : List Event} → Link d w es u → u ≡ ranThrough w es
 unfolding steppedBy ranThrough
 link-ran (asked w a t heard) = ap (λ (t : After). t .world) (heard-answered heard)
@@ -120,6 +144,11 @@ link-ran (by-run-record κ a r e p deep) =
     ap (λ (x : ShownRan). x .run .world) p ∙ record-ran (runningOf (a .0) (now (a .1 .0)) (now (a .1 .1 .0))) (a .1 .1 .1 .0)
 link-ran (by-run-next κ a r e p deep) =
     ap (λ (t : ShownTurn). t .turned .run .world) p ∙ turn-ran (runningOf (a .0) (now (a .1 .0)) (now (a .1 .1 .0))) (now (a .1 .1 .1 .0)) (a .1 .1 .1 .1 .0)
+link-ran (came-next t c s told deep) =
+    ap (λ (x : ShownFed). x .tape .run .world) (taken-is told) ∙ ap (λ (x : Taping). x .run .world) (answer-leaves t c)
+    ∙ ap (λ (v : Running). v .world) (runs-its-bytes t c) ∙ replay-ran (t .run) (bytesRun t c)
+link-ran (no-room-to-feed κ a r e p none) = ap (λ (x : Taping). x .run .world) (unfed κ a r e p none)
+link-ran (no-room-to-finish κ a r e p none) = ap (λ (x : Taping). x .run .world) (untold κ a r e p none)
 link-ran (by-list-block κ a r e p deep) =
     ap (λ (b : ListedBlock). b .run .world) p
     ∙ block-ran (runningOf (a .0) (now (a .1 .0)) (now (a .1 .1 .0))) (now (a .1 .1 .1 .0)) (now (a .1 .1 .1 .1 .0))
@@ -146,6 +175,9 @@ link-above {d} (by-cattlecleat-replay κ a r e p deep) before after = records-ab
 link-above {d} (by-replay κ a r e p deep) before after = records-above d _ (entriesIn (now (a .1 .1 .1 .0))) deep
 link-above {d} (by-run-record κ a r e p deep) before after = records-above d _ (a .1 .1 .1 .0 ∷ []) deep
 link-above {d} (by-run-next κ a r e p deep) before after = records-above d _ (entriesHere (now (a .1 .1 .1 .0)) (a .1 .1 .1 .1 .0)) deep
+link-above {d} (came-next t c s told deep) before after = records-above d (t .run) (entriesComing t c) deep
+link-above (no-room-to-feed κ a r e p none) before after = before
+link-above (no-room-to-finish κ a r e p none) before after = before
 link-above {d} (by-list-block κ a r e p deep) before after =
     records-above d _ (entriesListed (now (a .1 .1 .1 .0)) (now (a .1 .1 .1 .1 .0))) deep
 

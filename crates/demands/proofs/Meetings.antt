@@ -31,7 +31,7 @@ use Rattle.demands.specs.Links.{History, history-end, link-then}
 use Rattle.demands.specs.Meetings.{EveryAsked, EveryHistory, EveryTrace}
 use Rattle.demands.proofs.Heard.{heard-answered}
 
-abbrev lent : {A : Type 0} → A → RefT A
+abbrev pub lent : {A : Type 0} → A → RefT A
 lent value = record { ptr = (0, 0); name = 0; now = value }
 
 -- ---- numbers that say the world

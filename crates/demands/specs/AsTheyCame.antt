@@ -3,11 +3,13 @@
 --     StatesAsTheyCame     of a request, and of a register sync, that is refused
 --     WordsAsTheyCame      of a request in place: the state, and whatever is lent to be written, holds what it held
 --     RunsAsTheyCame       of a trace of which no record is accepted
+--     TapesAsTheyCame      of a block that is refused, and of blocks and ends after a stop: the whole tape, with both buffers (document 02, T-01)
 use mathlib.Core.Path.{_≡_}
-use mathlib.Core.Bool.{false}
-use mathlib.Core.Logic.{_↔_}
+use mathlib.Core.Bool.{true, false}
+use mathlib.Core.Logic.{_↔_, _⊎_}
 use Prim.Native.Nat.{ℕ, _≤_}
 use denote.Ref.{now}
+use Rattle.regs.specs.Convert.{truthOf}
 use Rattle.request.specs.declared.Decoded.the-variants.{Bad}
 use Rattle.request.specs.Entries.{entriesIn}
 use Rattle.face.specs.Requests.{requestFrom}
@@ -29,7 +31,11 @@ use Rattle.face_ask.proofs.cattlecleat_ask.Reads as c-ask
 use Rattle.face_ask.proofs.cattlecleat_sync_registers.Reads as c-sync-registers
 use Rattle.face_replay.specs.declared.traces.CRun.{CRun}
 use Rattle.face_replay.specs.Runs.{runningFrom, anyAccepted}
+use Rattle.face_replay.specs.declared.tapes.CTape.{CTape}
+use Rattle.face_replay.specs.declared.tapes.CFed.{CFed}
 use Rattle.face_replay.proofs.cattlecleat_replay.Reads as c-replay
+use Rattle.face_replay.proofs.cattlecleat_feed.Reads as c-feed
+use Rattle.face_replay.proofs.cattlecleat_finish.Reads as c-finish
 
 abbrev pub NumbersAsked : Type 0
 NumbersAsked = (κ : _) (a : _) (r : CAnswer) (e : _) → c-ask.Post κ a r e → r .number ≡ 10 ↔ requestFrom (a .1 .1 .1 .0) ≡ Bad
@@ -62,3 +68,10 @@ RunsAsTheyCame =
     (κ : _) (a : _) (r : CRun) (e : _) → c-replay.Post κ a r e
     → anyAccepted (runningFrom (a .0) (now (a .1 .0)) (now (a .1 .1 .0))) (entriesIn (now (a .1 .1 .1 .0))) ≡ false
     → (r .state ≡ a .0 .state) × (now (e .1 .0) ≡ now (a .1 .0)) × (now (e .1 .1 .0) ≡ now (a .1 .1 .0))
+
+abbrev pub TapesAsTheyCame : Type 0
+TapesAsTheyCame =
+    ((κ : _) (a : _) (r : CFed) (e : _) → c-feed.Post κ a r e → (2 ≤ r .number) ⊎ (truthOf (a .0 .run .stopflag) ≡ true)
+    → (r .tape ≡ a .0) × (now (e .1 .0) ≡ now (a .1 .0)) × (now (e .1 .1 .0) ≡ now (a .1 .1 .0)))
+    × ((κ : _) (a : _) (r : CTape) (e : _) → c-finish.Post κ a r e → truthOf (a .0 .run .stopflag) ≡ true
+    → (r ≡ a .0) × (now (e .1 .0) ≡ now (a .1 .0)) × (now (e .1 .1 .0) ≡ now (a .1 .1 .0)))

@@ -1,4 +1,6 @@
 pub mod Heard
+pub mod Taken
+pub mod LinesTaken
 pub mod Links
 pub mod Answers
 pub mod AsTheyCame

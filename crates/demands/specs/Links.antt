@@ -2,6 +2,7 @@
 -- and a pop by a function make a history.
 --     eventsRan v ds         what the records of a replay asked for, as far as they were run
 --     entriesHere, entriesListed      the record at a place of a trace, none behind its end; those of a block that has room for its lines
+--     entriesComing t c      those that a tape runs of what comes next
 --     InPlace before after   registers that a function stores in place
 --     Link d w es u          one call, or one store of a host: from world w to world u, with these events; inside a trace the depth is d or more
 --     History d w es v       links one after another; in every world between them the depth is d or more
@@ -33,9 +34,15 @@ use Rattle.replay.specs.Resumed.{DepthKept}
 use Rattle.replay.proofs.replay.Reads as replays
 use Rattle.replay.proofs.run_record.Reads as runs
 use Rattle.replay.proofs.run_next.Reads as turns
+use Rattle.tape.specs.Tapes.{Taping, ShownFed}
+use Rattle.tape.specs.AnyCuts.{Coming, bytesRun}
 use Rattle.listing.specs.declared.block.Listed.{Listed}
+use Rattle.listing.specs.declared.taped.ListedFeeding.{ListedFeeding}
 use Rattle.listing.specs.Blocks.{blockRoom}
+use Rattle.listing.specs.Taped.{fedLinesNumber}
 use Rattle.listing.proofs.list_block.Reads as lists
+use Rattle.listing.proofs.list_feed.Reads as list-feeds
+use Rattle.listing.proofs.list_finish.Reads as list-finishes
 use Rattle.face.specs.declared.state.CState.{CState}
 use Rattle.face.specs.Requests.{requestFrom}
 use Rattle.face_leaves.proofs.cattlecleat_put_ireg as c-put-ireg
@@ -49,6 +56,7 @@ use Rattle.face_replay.specs.declared.traces.CRun.{CRun}
 use Rattle.face_replay.specs.Runs.{runningFrom}
 use Rattle.face_replay.proofs.cattlecleat_replay.Reads as c-replay
 use Rattle.demands.specs.Heard.{worldSaid, Heard, RoutineHeard, routineWrites}
+use Rattle.demands.specs.Taken.{Taken}
 
 -- ---- the records of a trace
 
@@ -67,6 +75,10 @@ entriesHere bytes at = choose (leb (length bytes) at) [] (entryAt bytes at ∷ [
 
 abbrev pub entriesListed : (bytes out : List ℕ) → List Decoded
 entriesListed bytes out = choose (ltb (length out) (blockRoom (recordCount (length bytes)))) [] (entriesIn bytes)
+
+-- of a tape: those that a block makes whole, or the short one at the end
+abbrev pub entriesComing : Taping → Coming → List Decoded
+entriesComing t c = entriesIn (bytesRun t c)
 
 -- ---- registers in place. These functions are proved by hand and have no `Reads`: their promise is what the checker made of their `clauses`
 
@@ -141,6 +153,14 @@ pub data Link (d : ℕ) : World → List Event → World → Type 0 where
       → Link d (worldOf (a .0 .state) (now (a .1 .0)) (now (a .1 .1 .0)))
       (eventsRan (runningOf (a .0) (now (a .1 .0)) (now (a .1 .1 .0))) (entriesHere (now (a .1 .1 .1 .0)) (a .1 .1 .1 .1 .0)))
       (worldOf (r .ran .run .state) (now (e .1 .0)) (now (e .1 .1 .0)))
+  -- a block of a tape, or its end
+  came-next : (t : Taping) (c : Coming) (s : ShownFed) → Taken t c s → DepthKept d (t .run) (entriesComing t c)
+      → Link d (t .run .world) (eventsRan (t .run) (entriesComing t c)) (s .tape .run .world)
+  -- a block, or an end, without room for its lines
+  no-room-to-feed : (κ : _) (a : _) (r : ListedFeeding) (e : _) → list-feeds.Post κ a r e → fedLinesNumber (r .fed) ≡ 19
+      → Link d (worldOf (a .0 .run .state) (now (a .1 .0)) (now (a .1 .1 .0))) [] (worldOf (r .tape .run .state) (now (e .1 .0)) (now (e .1 .1 .0)))
+  no-room-to-finish : (κ : _) (a : _) (r : ListedFeeding) (e : _) → list-finishes.Post κ a r e → fedLinesNumber (r .fed) ≡ 19
+      → Link d (worldOf (a .0 .run .state) (now (a .1 .0)) (now (a .1 .1 .0))) [] (worldOf (r .tape .run .state) (now (e .1 .0)) (now (e .1 .1 .0)))
   -- a block of a trace, with its lines
   by-list-block : (κ : _) (a : _) (r : Listed) (e : _) → lists.Post κ a r e
       → DepthKept d (runningOf (a .0) (now (a .1 .0)) (now (a .1 .1 .0))) (entriesListed (now (a .1 .1 .1 .0)) (now (a .1 .1 .1 .1 .0)))

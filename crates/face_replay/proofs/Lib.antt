@@ -1,3 +1,4 @@
 pub mod Backs
+pub mod TapesBack
 pub mod Settled
 pub mod Telling

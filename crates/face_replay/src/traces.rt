@@ -37,7 +37,7 @@ pub extern "C" fn cattlecleat_replay(
     run_back(run, replay(run_from(run), words, cells, trace))
 }
 
-fn run_from(c: CRun) -> Run
+pub(crate) fn run_from(c: CRun) -> Run
     ensures { λ r. ⌜ r ≡ runFrom c ⌝ }
 {
     let held = c.state;
@@ -50,7 +50,7 @@ fn run_from(c: CRun) -> Run
     }
 }
 
-fn run_back(came: CRun, run: Run) -> CRun
+pub(crate) fn run_back(came: CRun, run: Run) -> CRun
     ensures { λ r. ⌜ r ≡ runBack came run ⌝ }
 {
     let held = came.state;

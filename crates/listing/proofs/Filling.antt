@@ -43,7 +43,7 @@ left-behind v ds text used out =
     λ i. blockOf (ranAll v ds) (place i) (sets-append text (linesText v ds) out used i)
 
 -- the text of a record's lines, and of the rest
-text-first : (v : Running) (d : Decoded) (ds : List Decoded) → linesText v (d ∷ ds) ≡ textOf (saidOf (linesBy v d)) ++ linesText (ran v d .run) ds
+pub text-first : (v : Running) (d : Decoded) (ds : List Decoded) → linesText v (d ∷ ds) ≡ textOf (saidOf (linesBy v d)) ++ linesText (ran v d .run) ds
 unfolding linesText linesOf
 text-first v d ds = text-lines (linesBy v d) (linesOf (ran v d .run) ds)
 
@@ -65,6 +65,13 @@ module _ (v : Running) (d : Decoded) where
   unfolding linesBy textOf
   one-text e = ap (λ ls. textOf (saidOf ls)) (sym (chosen-second _ _ _ _ _ e refl)) ∙ append-nil (lineText (lineOf (v .number) (ran v d)))
 
+  pub text-short : length (textOf (saidOf (linesBy v d))) ≤ longestText
+  text-short = by (isGiven (ran v d .run .stop)) refl
+    where
+      by : (b : Bool) → isGiven (ran v d .run .stop) ≡ b → length (textOf (saidOf (linesBy v d))) ≤ longestText
+      by true e = rw (no-text e) (omega arith)
+      by false e = rw (one-text e) (line-fits (lineOf (v .number) (ran v d)))
+
 -- so what is put is that text
 module _ (v : Running) (d : Decoded) (used : ℕ) (out : List ℕ) (room : used + longestText ≤ length out) where
   text-put : choose (isGiven (ran v d .run .stop)) (shownText used out) (textPut out used (lineText (lineOf (v .number) (ran v d))))
@@ -83,13 +90,6 @@ module _ (v : Running) (d : Decoded) (used : ℕ) (out : List ℕ) (room : used 
           sym (chosen-second _ _ _ _ _ e refl)
           ∙ textPut-room out used (lineText (lineOf (v .number) (ran v d))) room
           ∙ ap (λ text. shownText (used + length text) (sets out used text)) (sym (one-text v d e))
-
-  text-short : length (textOf (saidOf (linesBy v d))) ≤ longestText
-  text-short = by (isGiven (ran v d .run .stop)) refl
-    where
-      by : (b : Bool) → isGiven (ran v d .run .stop) ≡ b → length (textOf (saidOf (linesBy v d))) ≤ longestText
-      by true e = rw (no-text v d e) (omega arith)
-      by false e = rw (one-text v d e) (line-fits (lineOf (v .number) (ran v d)))
 
 module _ (v : Running) (bytes : List ℕ) (at used : ℕ) (out : List ℕ) (inside : at < length bytes) (room : used + longestText ≤ length out) where
   step-is : stepListed v bytes at out used
@@ -114,7 +114,7 @@ module _ (v : Running) (bytes : List ℕ) (at used : ℕ) (out : List ℕ) (insi
   pub step-used : (s : ShownStep) → s ≡ stepListed v bytes at out used
       → (s .next ≡ nextPlace (length bytes) at) × ((s .text .next ≤ used + longestText) × (length (s .text .bytes) ≡ length out))
   step-used s e =
-      let short = text-short v (entryAt bytes at) used out room in
+      let short = text-short v (entryAt bytes at) in
       let placed : s .text .next ≡ used + length (textOf (saidOf (linesBy v (entryAt bytes at)))) = ap (λ (s : ShownStep). s .text .next) (e ∙ step-is) in (
         ap (λ (s : ShownStep). s .next) (e ∙ step-is),
         (omega arith, ap (λ (s : ShownStep). length (s .text .bytes)) (e ∙ step-is) ∙ length-sets out used (textOf (saidOf (linesBy v (entryAt bytes at))))),

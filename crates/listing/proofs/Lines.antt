@@ -57,7 +57,7 @@ pub lines-join : LinesJoin
 unfolding replayed
 lines-join v a b whole = ap (linesText v) (entries-join a b whole) ∙ lines-text-both v (entriesIn a) (entriesIn b)
 
-listing-text : (v : Running) (ds : List Decoded) → textOf (listingOf v ds) ≡ linesText v ds ++ textOf (saidAtEnd (ranAll v ds))
+pub listing-text : (v : Running) (ds : List Decoded) → textOf (listingOf v ds) ≡ linesText v ds ++ textOf (saidAtEnd (ranAll v ds))
 unfolding listingOf linesText
 listing-text v ds = text-both (saidOf (linesOf v ds)) (saidAtEnd (ranAll v ds))
 

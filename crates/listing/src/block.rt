@@ -45,7 +45,7 @@ pub fn list_block(
 }
 
 // Whether so much text has no room for the lines of so many bytes of records.
-fn is_narrow(text: usize, bytes: usize) -> bool
+pub(crate) fn is_narrow(text: usize, bytes: usize) -> bool
     ensures { λ r. ⌜ r ≡ ltb text (blockRoom (recordCount bytes)) ⌝ }
 {
     let whole = bytes / RECORD_SIZE;

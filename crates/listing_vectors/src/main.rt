@@ -1,7 +1,10 @@
-// Runs traces from data/ with a given fuel and prints their listings, three records a block. The expected lines (stdout) are those of a plain
-// reading of document 01 (rust/beside/src/programs); none is taken from a run of this program.
+// Runs traces from data/ with a given fuel and prints their listings, three records a block; then as tapes, in blocks of any length. The expected
+// lines (stdout) are those of a plain reading of documents 01 and 02 (rust/beside/src/programs); none is taken from a run of this program.
+mod blocks;
 mod parts;
 mod say;
+mod steps;
+mod traces;
 
 fn main() {
     worked();
@@ -10,6 +13,7 @@ fn main() {
     show(b"bad.trace", 1000000);
     show(b"deep.trace", 1000000);
     fuel();
+    blocks::show();
 }
 
 // Document 01's example, with its fuel, with exactly what it costs, and with less.
@@ -48,13 +52,7 @@ fn fuel() {
 
 fn show(name: &[u8], fuel: u64) {
     say::title(name, fuel);
-    let file = os::open_read(name);
-    if file < 0 {
-        say::missing();
-        return;
-    }
     let mut bytes = [0u8; 8000];
-    let n = io::read_full(file, &mut bytes);
-    libc::close(file);
+    let n = traces::read(name, &mut bytes);
     parts::list(&bytes[..n], fuel);
 }

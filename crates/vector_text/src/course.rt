@@ -1,4 +1,4 @@
-// A run of a file in its course: the state, the lengths that are lent, how the buffers are told, the place in the text, and what was counted.
+// A run of a file in its course: the state, the lengths that are lent, the tape, how the buffers are told, the place in the text, and what was counted.
 use crate::counts::Counts;
 use crate::counts::a_bad_line_more;
 use crate::counts::a_line_more;
@@ -6,21 +6,25 @@ use crate::counts::entered;
 use crate::counts::none_of;
 use crate::say;
 
-// The state has its numbers in the order in which a line tells them.
+// State and tape have their numbers in the order in which a line tells them; the run of the tape has this state.
 pub struct Course {
     pub state: [u64; 11],
     pub words: usize,
     pub cells: usize,
+    pub tape: [u64; 12],
     pub full: u64,
     pub at: usize,
     pub counts: Counts,
 }
+
+const NO_TAPE: [u64; 12] = [0; 12];
 
 pub fn fresh_course(file: usize) -> Course {
     Course {
         state: [0; 11],
         words: 0,
         cells: 0,
+        tape: NO_TAPE,
         full: 1,
         at: 0,
         counts: none_of(file),
@@ -53,4 +57,9 @@ pub fn moved_on(c: Course, at: usize) -> Course {
         counts: a_line_more(counts),
         ..c
     }
+}
+
+// An opening lays a tape of zeros down.
+pub fn with_no_tape(c: Course) -> Course {
+    Course { tape: NO_TAPE, ..c }
 }

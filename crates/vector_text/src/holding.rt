@@ -47,6 +47,40 @@ pub fn hold_all(
     names: &[u8],
     o: Outcome,
 ) -> Course {
+    let told = o.told;
+    let h = answer_held(c.counts, tokens, names, told);
+    hold_after(c, words, cells, tokens, h, o)
+}
+
+// The same with a tape behind the answer. The tape is the next line's too.
+pub fn hold_taped(
+    c: Course,
+    words: &[u64],
+    cells: &[u64],
+    tokens: &[u64],
+    tape: [u64; 12],
+    o: Outcome,
+) -> Course {
+    let told = o.told;
+    let h = answer_held(c.counts, tokens, b"bar 1   answer  ", told);
+    let h = tape_held(c.counts, tokens, h, tape);
+    hold_after(Course { tape, ..c }, words, cells, tokens, h, o)
+}
+
+fn tape_held(c: Counts, tokens: &[u64], h: Mark, tape: [u64; 12]) -> Mark {
+    let names =
+        b"number  fuel    spent   stopped cost    held    end     byte 0  byte 8  byte 16 byte 24 byte 32 ";
+    held(c, tokens, h, names, &tape[..])
+}
+
+fn hold_after(
+    c: Course,
+    words: &[u64],
+    cells: &[u64],
+    tokens: &[u64],
+    h: Mark,
+    o: Outcome,
+) -> Course {
     let state = o.state;
     let next = Course {
         state,
@@ -54,8 +88,6 @@ pub fn hold_all(
         cells: o.cells,
         ..c
     };
-    let told = o.told;
-    let h = answer_held(c.counts, tokens, names, told);
     let h = state_held(c.counts, tokens, h, state);
     if c.full == 0 {
         return sums_held(next, words, cells, tokens, h);

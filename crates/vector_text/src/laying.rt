@@ -1,4 +1,4 @@
-// Lines that lay something down before the next: how buffers are told, a state, a word, a cell, a record or a byte of the trace.
+// Lines that lay something down before the next: how buffers are told, a state, a word, a cell, a record or a byte of the trace, a tape.
 use crate::course::Course;
 use crate::course::counted;
 use crate::course::faulty;
@@ -101,4 +101,30 @@ pub fn laid_byte(c: Course, trace: &mut [u8], tokens: &[u64]) -> Course {
     }
     trace[i] = (b % 256) as u8;
     counted(c, 0, 0)
+}
+
+// Any twelve numbers are a tape.
+pub fn laid_tape(c: Course, tokens: &[u64]) -> Course {
+    if tokens.len() != 13 {
+        return faulty(c, WRONG_COUNT);
+    }
+    let tape = tape_in(tokens);
+    counted(Course { tape, ..c }, 0, 0)
+}
+
+fn tape_in(tokens: &[u64]) -> [u64; 12] {
+    [
+        token(tokens, 1),
+        token(tokens, 2),
+        token(tokens, 3),
+        token(tokens, 4),
+        token(tokens, 5),
+        token(tokens, 6),
+        token(tokens, 7),
+        token(tokens, 8),
+        token(tokens, 9),
+        token(tokens, 10),
+        token(tokens, 11),
+        token(tokens, 12),
+    ]
 }

@@ -16,6 +16,7 @@ use regs::Registers;
 use std::num::wrapping_add_usize;
 use vector_text::course::Course;
 use vector_text::course::faulty;
+use vector_text::course::with_no_tape;
 use vector_text::floats::is_single;
 use vector_text::holding::hold_all;
 use vector_text::say::NO_SUCH_WORD;
@@ -122,7 +123,7 @@ fn asked_over(
     answer_told(inputs, words.len(), cells.len(), a)
 }
 
-// Both buffers are refilled first: word i is 1000 and i, cell i is 2000 and i.
+// Both buffers are refilled first: word i is 1000 and i, cell i is 2000 and i. The tape is one of zeros from then on.
 pub fn opened(c: Course, words: &mut [u64], cells: &mut [u64], tokens: &[u64]) -> Course {
     if words.len() < place(tokens, 3) {
         return faulty(c, OUTSIDE);
@@ -151,7 +152,7 @@ fn open_over(c: Course, words: &[u64], cells: &[u64], tokens: &[u64]) -> Course 
     let m = least(place(tokens, 4), cells.len());
     let bytes = place(tokens, 1);
     let o = opened_over(bytes, place(tokens, 2), &words[0..w], &cells[0..m]);
-    hold_all(c, words, cells, tokens, &ANSWER, o)
+    hold_all(with_no_tape(c), words, cells, tokens, &ANSWER, o)
 }
 
 fn opened_over(bytes: usize, depth: usize, words: &[u64], cells: &[u64]) -> Outcome {

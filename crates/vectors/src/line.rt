@@ -6,6 +6,8 @@ use crate::asking::recorded;
 use crate::asking::straight;
 use crate::asking::synced;
 use crate::leaves::leaf;
+use crate::taping::fed;
+use crate::taping::finished;
 use crate::tracing::read;
 use crate::tracing::replayed;
 use crate::tracing::written;
@@ -15,6 +17,7 @@ use vector_text::laying::laid_byte;
 use vector_text::laying::laid_number;
 use vector_text::laying::laid_record;
 use vector_text::laying::laid_state;
+use vector_text::laying::laid_tape;
 use vector_text::laying::telling;
 use vector_text::tokens::token;
 
@@ -34,6 +37,7 @@ pub fn run_line(
         words::CELL => laid_number(c, cells, tokens),
         words::TRACE => laid_record(c, trace, tokens),
         words::BYTE => laid_byte(c, trace, tokens),
+        words::TAPE => laid_tape(c, tokens),
         words::READ => read(c, trace, tokens),
         words::WRITE => written(c, trace, tokens),
         words::INTO | words::FROM | words::ALIGN | words::FILL | words::TAKE => leaf(c, tokens),
@@ -56,6 +60,8 @@ fn asked(
         words::REGS => synced(c, words, cells, tokens),
         words::PART => lent(c, words, cells, tokens),
         words::REPLAY => replayed(c, words, cells, trace, tokens),
+        words::FEED => fed(c, words, cells, trace, tokens),
+        words::FINISH => finished(c, words, cells, tokens),
         _ => by_kind(c, words, cells, tokens, words::kind_of(word)),
     }
 }

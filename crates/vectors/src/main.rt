@@ -5,6 +5,7 @@ mod asking;
 mod leaves;
 mod line;
 mod states;
+mod taping;
 mod told;
 mod tracing;
 mod typed;

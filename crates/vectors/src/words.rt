@@ -25,6 +25,12 @@ pub const PART: u64 = 0x7061_7274;
 
 pub const REPLAY: u64 = 0x7265_706c_6179;
 
+pub const TAPE: u64 = 0x7461_7065;
+
+pub const FEED: u64 = 0x6665_6564;
+
+pub const FINISH: u64 = 0x6669_6e69_7368;
+
 pub const READ: u64 = 0x7265_6164;
 
 pub const WRITE: u64 = 0x77_7269_7465;

@@ -31,11 +31,12 @@ const HELP: &str = "beside: the archive beside the Rust of wasmi 2.0.0 and a pla
   beside again
       runs the case on standard input, as `compare` prints a failing one
   beside bench [--records N] [--rounds N]
-      times ours beside the Rust and beside C by hand on traces of so many records, medians of so many rounds; wants a release build
+      times ours beside the Rust and beside C by hand on traces of so many records, and in blocks beside the whole trace, medians of
+      so many rounds; wants a release build
   beside bench --count N
       what `bench` has callgrind count: each party on traces of so many records, and no more
   beside leaves
-      conversions, align, the done slot, registers by their bits, records, replays, K1 to K10
+      conversions, align, the done slot, registers by their bits, records, replays, traces in blocks, K1 to K10
   beside mission
       one run at document 01's largest sizes, within 512 MiB
   beside gate

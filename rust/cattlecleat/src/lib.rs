@@ -1,9 +1,9 @@
 //! Cattlecleat: a proved call stack for a Wasm interpreter.
 //!
 //! The stack keeps frames and cells in two buffers of `u64` that its host lends or gives it. Every request gets an answer, on any state and
-//! any content of the buffers; a [`Refusal`] has document 01's number and changes nothing; and whatever happens in between, a return finds
-//! its caller as it was. That is proved of the archive which this crate links, not of the few lines of Rust around it. The archive is for
-//! x86-64 with the System V calling convention.
+//! any content of the buffers; a [`Refusal`] has its number in document 01 or 02 and changes nothing; and whatever happens in between, a
+//! return finds its caller as it was. That is proved of the archive which this crate links, not of the few lines of Rust around it. The
+//! archive is for x86-64 with the System V calling convention.
 //!
 //! Document 01's example, two calls with two instances and three returns:
 //!
@@ -27,8 +27,9 @@
 //! # Ok::<(), Refusal>(())
 //! ```
 //!
-//! [`Stack`] has one method per request; [`Trace`] and [`Stack::replay`] read and run recorded ones. [`Register`], [`align_relative_to`],
-//! [`DoneSlot`] and the methods of [`Registers`] are the leaves beside it, and [`raw`] is the plain layer below.
+//! [`Stack`] has one method per request; [`Trace`] and [`Stack::replay`] read and run recorded ones, and [`Tape`] runs those that arrive in
+//! blocks, as [`std::io::copy`] hands them on from a file. [`Register`], [`align_relative_to`], [`DoneSlot`] and the methods of
+//! [`Registers`] are the leaves beside it, and [`raw`] is the plain layer below.
 #![deny(missing_docs)]
 
 mod calls;
@@ -41,6 +42,7 @@ mod refusal;
 mod register;
 mod request;
 mod stack;
+mod tape;
 mod trace;
 
 pub use calls::{HostCall, Popped, Restored, ReturnHostCall};
@@ -50,4 +52,5 @@ pub use refusal::Refusal;
 pub use register::{Register, align_relative_to};
 pub use request::{HostArgs, PushArgs, ReplaceArgs, Request, ReturnHostArgs};
 pub use stack::{FRAME_WORDS, Frame, Limits, Stack};
+pub use tape::Tape;
 pub use trace::{RECORD_BYTES, Replayed, Trace, read_record, write_record};

@@ -11,14 +11,16 @@
 //! number.
 //!
 //! A flag of 0 reads as none whatever the number beside it, any other as given. A refusal hands flags and numbers back as they came, and
-//! so does a replay what the trace left as it was; else a flag comes back as 0 or 1, with 0 beside 0.
+//! so does a replay, whole or in blocks ([`feed`]), what the trace left as it was; else a flag comes back as 0 or 1, with 0 beside 0.
 //! What changes registers in place are methods of [`Registers`].
 
 mod place;
+mod tape;
 
 pub use place::{Frame, Host, Hosted, Offset, Push, Replace, ReturnHost, Returned};
 pub use place::{host_part_in_place, pop_frame, prepare_host_frame, push_frame, replace_frame, reset, restore_frame};
 pub use place::{return_prepare_host_frame, set, sync_ip, sync_registers_in_place};
+pub use tape::{Fed, Tape, feed, finish};
 
 /// The three registers: an integer, an f32 and an f64, kept bit for bit.
 #[repr(C)]

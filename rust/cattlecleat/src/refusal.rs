@@ -1,8 +1,8 @@
-//! Why nothing was done: document 01's numbers from 2 on, with its words.
+//! Why nothing was done: document 01's numbers from 2 on and document 02's, with their words.
 use std::error::Error;
 use std::fmt;
 
-/// Why nothing was done. A refusal changes nothing: neither the stack nor a buffer, slot or trace.
+/// Why nothing was done. A refusal changes nothing: neither the stack nor a buffer, slot, trace or tape.
 ///
 /// D is the depth limit in frames, M the height limit in cells, L the number of cells lent.
 ///
@@ -46,15 +46,17 @@ pub enum Refusal {
     BadOpening = 14,
     /// 15: ip below base, or the aligned address above the largest u64.
     BadAddress = 15,
+    /// 22: a nonempty block after an end without a stop.
+    Ended = 22,
 }
 
 impl Refusal {
-    /// Document 01's number, 2 to 15.
+    /// Document 01's number, 2 to 15, or document 02's, 22.
     pub const fn number(self) -> u64 {
         self as u64
     }
 
-    /// The refusal of a number; none for 0 and 1, which are no refusals, and above 15.
+    /// The refusal of a number; none for 0 and 1, which are no refusals, and for numbers that no answer has.
     ///
     /// ```
     /// # use cattlecleat::Refusal;
@@ -77,6 +79,7 @@ impl Refusal {
             13 => Self::NothingToTake,
             14 => Self::BadOpening,
             15 => Self::BadAddress,
+            22 => Self::Ended,
             _ => return None,
         })
     }
@@ -85,7 +88,7 @@ impl Refusal {
     ///
     /// # Panics
     ///
-    /// On a number above 15: the archive is proved to give none, so that it is not the one that belongs here.
+    /// On a number that no answer has: the archive is proved to give none, so that it is not the one that belongs here.
     #[inline]
     pub(crate) fn check(number: u64) -> Result<(), Self> {
         if number <= 1 {
@@ -97,7 +100,7 @@ impl Refusal {
         }
     }
 
-    /// When it is given, in document 01's words.
+    /// When it is given, in the documents' words.
     const fn words(self) -> &'static str {
         match self {
             Self::Overflow => "push with frame count = D; or a needed length above M",
@@ -117,6 +120,7 @@ impl Refusal {
             Self::NothingToTake => "nothing to take",
             Self::BadOpening => "opening beyond the limits, or too few frame words",
             Self::BadAddress => "ip below base, or the aligned address above the largest u64",
+            Self::Ended => "a nonempty block after an end without a stop",
         }
     }
 }

@@ -102,6 +102,17 @@ pub struct Replayed {
     pub stopped: Option<u64>,
 }
 
+impl Replayed {
+    /// Of a run that was begun at record 0 with nothing spent.
+    pub(crate) fn of(run: &Run) -> Self {
+        Self {
+            records: run.number,
+            spent: run.spent,
+            stopped: (run.stop_flag != 0).then_some(run.cost),
+        }
+    }
+}
+
 impl<W: AsMut<[u64]>, C: AsMut<[u64]>> Stack<W, C> {
     /// Replays a trace, up to a record whose cost exceeds the fuel left. A record costs 1, plus the cells zeroed or copied if it is
     /// accepted; refused records, bad ones too, cost 1, and the replay goes on.
@@ -124,10 +135,6 @@ impl<W: AsMut<[u64]>, C: AsMut<[u64]>> Stack<W, C> {
         };
         let run = raw::replay(begun, self.words.as_mut(), self.cells.as_mut(), trace);
         self.state = run.state;
-        Replayed {
-            records: run.number,
-            spent: run.spent,
-            stopped: (run.stop_flag != 0).then_some(run.cost),
-        }
+        Replayed::of(&run)
     }
 }

@@ -77,12 +77,12 @@ fn the_slot_holds_at_most_one_reason() {
 
 #[test]
 fn refusals_have_numbers_and_words() {
-    for number in 2..=15 {
-        let refusal = Refusal::from_number(number).expect("document 01 has it");
+    for number in (2..=15).chain([22]) {
+        let refusal = Refusal::from_number(number).expect("a document has it");
         assert_eq!(refusal.number(), number);
         let error: &dyn Error = &refusal;
         let words = error.to_string();
         assert!(words.starts_with(&format!("refusal {number}: ")) && words.len() > 20, "{words}");
     }
-    assert_eq!([0, 1, 16, u64::MAX].map(Refusal::from_number), [None; 4]);
+    assert_eq!([0, 1, 16, 21, 23, u64::MAX].map(Refusal::from_number), [None; 6]);
 }

@@ -1,4 +1,4 @@
-//! The safe API against document 01: its example and edge cases, refusals, broken states, NaNs, records and the leaves.
+//! The safe API against document 01: its example and edge cases, refusals, broken states, NaNs, records, traces in blocks and the leaves.
 mod broken;
 mod cases;
 mod example;
@@ -9,5 +9,6 @@ mod nans;
 mod readme;
 mod records;
 mod shared;
+mod tape;
 mod unchanged;
 mod world;

@@ -12,24 +12,26 @@ pub struct Measured {
     pub instructions: Option<u64>,
 }
 
-/// The first party is what all are measured by. Where there is no C by hand, its line says so.
+/// The first party is what all are measured by. Where one has the shapes of C by hand, and there is none, its line says so.
 pub fn lines(trace: &str, way: &str, all: &[Measured]) -> Vec<String> {
     let begin = |party: &str| format!("{trace:<15}  {way:<18}  {party:<22}");
     let floor = all.iter().find(|measured| measured.role == Role::Floor);
     let line = |measured: &Measured| begin(measured.party) + &measured.figures(&all[0], floor);
-    let missing = floor.is_none().then(|| format!("{}  no C compiler", begin(BY_HAND)));
+    let like_floor = all.iter().any(|measured| measured.role == Role::LikeFloor);
+    let missing = like_floor && floor.is_none();
+    let missing = missing.then(|| format!("{}  no C compiler", begin(BY_HAND)));
     all.iter().map(line).chain(missing).collect()
 }
 
 impl Measured {
-    fn figures(&self, rust: &Self, floor: Option<&Self>) -> String {
+    fn figures(&self, first: &Self, floor: Option<&Self>) -> String {
         let instructions = self.instructions.map_or(String::new(), |count| format!("{count:7} instructions"));
         let of_floor = floor.filter(|_| self.role == Role::LikeFloor);
         let of_floor = of_floor.map_or(String::new(), |floor| format!("of C {:.2}", self.over(floor)));
         format!(
             "  {:7.2} ns{instructions}  {of_floor:9}  ratio {:.2}",
             median(self.nanoseconds.iter().copied()),
-            self.over(rust)
+            self.over(first)
         )
     }
 
@@ -82,6 +84,21 @@ mod tests {
             [
                 "calls            in a loop           ours                      12.00 ns             ratio 1.20",
                 "calls            in a loop           C by hand, every check  no C compiler",
+            ]
+        );
+    }
+
+    #[test]
+    fn ratios_to_all_at_once() {
+        let all = [
+            measured("at once", Role::Plain, [10.0, 20.0, 10.0], None),
+            measured("blocks", Role::Plain, [11.0, 21.0, 10.0], None),
+        ];
+        assert_eq!(
+            lines("calls", "in blocks", &all),
+            [
+                "calls            in blocks           at once                   10.00 ns             ratio 1.00",
+                "calls            in blocks           blocks                    11.00 ns             ratio 1.05",
             ]
         );
     }

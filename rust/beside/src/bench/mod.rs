@@ -1,7 +1,9 @@
 //! `beside bench`: ours over the archive beside the Rust and beside C by hand, on the same traces, in one run.
 //!
-//! Both ways of a host are measured: a call for each request, decoded beforehand; and whole traces, decoded in the loop.
+//! The ways of a host are measured: a call for each request, decoded beforehand; whole traces, decoded in the loop; and the same traces in
+//! blocks, beside the whole.
 
+mod blocks;
 mod by_value;
 mod callgrind;
 mod clock;
@@ -94,7 +96,8 @@ impl Bench {
 before timing every page of all buffers was written; in a round each party has its turn after a reset, in every other one backwards
 ns: the thread's processor time, a record
 instructions: {counted}
-ratio: by round, to the Rust, inlined, on the same trace in the same way; of C: to C by hand, which has the same shapes"
+ratio: by round, to the Rust, inlined, on the same trace in the same way, and in blocks to all at once
+of C: to C by hand, which has the same shapes"
         )
     }
 

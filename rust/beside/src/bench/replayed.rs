@@ -24,27 +24,32 @@ impl Replayed {
 }
 
 impl Side for Replayed {
-    fn load(&mut self, _: &Trace) -> Result<(), String> {
-        Ok(())
-    }
-
     fn reset(&mut self) {
         self.lent.reset();
     }
 
-    /// Fuel for exactly this trace: so every record was accepted where all of it is spent.
     fn run(&mut self, trace: &Trace) -> Result<End, String> {
-        let run = raw::Run {
-            state: self.lent.state,
-            fuel: trace.cost,
-            ..raw::Run::default()
-        };
+        let run = begun(&self.lent, trace);
         let run = (self.replay)(run, &mut self.lent.words, &mut self.lent.cells, &trace.bytes);
-        let records = (trace.bytes.len() / RECORD_BYTES) as u64;
-        if (run.number, run.spent, run.stop_flag) != (records, trace.cost, 0) {
-            return Err(format!("replayed to {run:?}, the cost is {}", trace.cost));
-        }
-        self.lent.state = run.state;
-        Ok(self.lent.end(None))
+        ended(&mut self.lent, &run, trace)
     }
+}
+
+/// With fuel for exactly this trace.
+pub fn begun(lent: &Lent, trace: &Trace) -> raw::Run {
+    raw::Run {
+        state: lent.state,
+        fuel: trace.cost,
+        ..raw::Run::default()
+    }
+}
+
+/// Every record was accepted where all of the fuel is spent.
+pub fn ended(lent: &mut Lent, run: &raw::Run, trace: &Trace) -> Result<End, String> {
+    let records = (trace.bytes.len() / RECORD_BYTES) as u64;
+    if (run.number, run.spent, run.stop_flag) != (records, trace.cost, 0) {
+        return Err(format!("replayed to {run:?}, the cost is {}", trace.cost));
+    }
+    lent.state = run.state;
+    Ok(lent.end(None))
 }

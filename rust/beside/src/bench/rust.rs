@@ -71,10 +71,6 @@ impl Replayed {
 }
 
 impl Side for Replayed {
-    fn load(&mut self, _: &Trace) -> Result<(), String> {
-        Ok(())
-    }
-
     fn reset(&mut self) {
         self.stack.reset();
     }

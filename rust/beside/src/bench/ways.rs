@@ -1,5 +1,6 @@
-//! The two ways of a host, and who takes part in each.
+//! The ways of a host, and who takes part in each.
 
+use super::blocks::Blocks;
 use super::by_value::ByValue;
 #[cfg(floor)]
 use super::floor::{self, Floor};
@@ -7,13 +8,14 @@ use super::in_place::{InPlace, Ours};
 use super::replayed::Replayed;
 use super::rust;
 use super::side::Side;
+use crate::reading::RECORD_BYTES;
 use cattlecleat::raw;
 
 pub const BY_HAND: &str = "C by hand, every check";
 
 pub struct Way {
     pub name: &'static str,
-    /// The Rust is the first: the others are measured by it.
+    /// The others are measured by the first: by the Rust, or in blocks by the whole trace.
     pub parties: Vec<Party>,
 }
 
@@ -25,7 +27,7 @@ pub struct Party {
 
 #[derive(Clone, Copy, PartialEq, Eq)]
 pub enum Role {
-    /// Measured by the Rust alone.
+    /// Measured by the first alone.
     Plain,
     /// In the shapes of C by hand, and measured by that too.
     LikeFloor,
@@ -34,7 +36,7 @@ pub enum Role {
 }
 
 /// Every party has a stack of its own. Without a C compiler there is no C by hand.
-pub fn all() -> Result<[Way; 2], String> {
+pub fn all() -> Result<[Way; 3], String> {
     let requests = Way {
         name: "one call a request",
         parties: vec![
@@ -55,7 +57,16 @@ pub fn all() -> Result<[Way; 2], String> {
             party(BY_HAND, Role::Floor, Replayed::open(floor::replay)?),
         ],
     };
-    Ok([requests, traces])
+    let blocks = Way {
+        name: "in blocks",
+        parties: vec![
+            party("ours, all at once", Role::Plain, Replayed::open(raw::replay)?),
+            party("ours, 65,536 bytes", Role::Plain, Blocks::open(65_536)?),
+            party("ours, 4,096 bytes", Role::Plain, Blocks::open(4_096)?),
+            party("ours, 40 bytes", Role::Plain, Blocks::open(RECORD_BYTES)?),
+        ],
+    };
+    Ok([requests, traces, blocks])
 }
 
 fn party(name: &'static str, role: Role, side: impl Side + 'static) -> Party {

@@ -13,6 +13,9 @@ mod traces;
 
 pub use self::{broken::broken, histories::histories, limits::limits, random::random, tally::Tally, traces::traces};
 
+#[cfg(target_arch = "x86_64")]
+pub use self::broken::spoil;
+
 /// What the cases are made from, for the tests of C by hand, which is no party.
 #[cfg(all(test, floor))]
 pub mod made {

@@ -9,19 +9,21 @@ mod records;
 mod registers;
 mod replays;
 mod seat;
+mod tapes;
 
 use self::count::Compared;
 use crate::command::Verdict;
 use crate::command::said::{ready, said};
 use std::time::Instant;
 
-const LEAVES: [(&str, fn() -> Compared); 7] = [
+const LEAVES: [(&str, fn() -> Compared); 8] = [
     ("conversions", convert::compared),
     ("align", align::compared),
     ("done slot", done::compared),
     ("registers", registers::compared),
     ("records", records::compared),
     ("replays", replays::compared),
+    ("traces in blocks", tapes::compared),
     ("K1 to K10", cases::compared),
 ];
 

@@ -22,7 +22,8 @@ pub fn compared() -> Compared {
 
 /// One stack and traces on it, each from where the one before ended or stopped. Seldom more is spent than was given.
 fn one(rng: &mut Rng) -> Compared {
-    let mut seat = Seat::new(start(rng))?;
+    let Reading { state, words, cells } = stack(rng);
+    let mut seat = Seat::new(Start::Given { state, words, cells })?;
     let before = rng.pick(&[0, 0, 0, u64::MAX - 500]);
     let (mut run, mut records) = (Replay::default(), 0);
     (run.number, run.fuel, run.spent) = (before, before, before + rng.pick(&[0, 0, 0, 9]));
@@ -38,7 +39,7 @@ fn one(rng: &mut Rng) -> Compared {
 }
 
 /// A small stack with registers; seldom one whose state is broken.
-fn start(rng: &mut Rng) -> Start {
+pub fn stack(rng: &mut Rng) -> Reading {
     let (depth, cells) = (rng.below(6), rng.below(24));
     let opening = Opening {
         bytes: (8 * cells + rng.below(20)).saturating_sub(4),
@@ -55,14 +56,11 @@ fn start(rng: &mut Rng) -> Start {
         freg32: rng.next() as u32,
         freg64: rng.next(),
     };
-    Start::Given {
-        state: stack.state,
-        words: stack.words,
-        cells: stack.cells,
-    }
+    stack
 }
 
-fn trace(rng: &mut Rng) -> Vec<u8> {
+/// Good and bad records; of four traces one ends short.
+pub fn trace(rng: &mut Rng) -> Vec<u8> {
     let mut trace: Vec<u8> = (0..rng.below(16)).flat_map(|i| record(rng, i == 0)).collect();
     if rng.once_in(4) {
         trace.truncate(trace.len().saturating_sub(rng.range(1, 39) as usize));

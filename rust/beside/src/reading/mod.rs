@@ -1,18 +1,21 @@
-//! Document 01 read plainly: every rule as it stands there, on numbers and vectors, for any state, words and request whatever.
+//! Document 01 read plainly, and of document 02 what is carried out: every rule as it stands there, on numbers and vectors, for any state,
+//! words and request whatever.
 //!
-//! It shares nothing with ours and nothing with the Rust. Refusals are tested one after another in the document's order.
+//! It shares nothing with ours and nothing with the Rust. Refusals are tested one after another in the documents' order.
 
 mod calls;
 mod hosts;
 mod records;
 mod replay;
 mod simple;
+mod tape;
 #[cfg(test)]
 mod tests;
 
 pub use self::{
     records::{RECORD_BYTES, read_record, write_record, write_straight},
     replay::{handed_back, replay},
+    tape::StraightTape,
 };
 
 use crate::plain::{Answer, Regs, Request, State};

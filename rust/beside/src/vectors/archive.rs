@@ -1,10 +1,11 @@
 //! The archive as a party of every line: it is called as the program calls it, and everything that it leaves behind is compared.
 
-use super::call::Call;
+use super::call::{Call, tape_tokens};
 use super::desk::Desk;
-use crate::party::convert::{raw_host, raw_regs, raw_state, raw_straight};
+use super::text::Token;
+use crate::party::convert::{plain_tape, raw_host, raw_regs, raw_state, raw_straight, raw_tape};
 use crate::plain::{Flagged, HostFrame, Regs, Replay, Straight};
-use crate::reading::RECORD_BYTES;
+use crate::reading::{RECORD_BYTES, StraightTape};
 use cattlecleat::raw;
 use std::ops::Range;
 
@@ -16,6 +17,7 @@ struct Archive {
     words: Vec<u64>,
     cells: Vec<u64>,
     trace: Vec<u8>,
+    tape: StraightTape,
 }
 
 /// What the archive finds otherwise, called on a desk as it was before: the answer, and the desk after it.
@@ -25,6 +27,7 @@ pub fn difference(call: &Call, before: Desk, answer: &[u64], after: &Desk) -> Op
         words: before.world.words,
         cells: before.world.cells,
         trace: before.trace,
+        tape: before.tape,
     };
     let found = archive.answer(call);
     if found != answer {
@@ -53,6 +56,7 @@ impl Archive {
             ("words", self.words == after.world.words),
             ("cells", self.cells == after.world.cells),
             ("trace", self.trace == after.trace),
+            ("tape", self.tape == after.tape),
         ];
         let (what, _) = same.iter().find(|(_, same)| !same)?;
         Some(format!("the archive's {what} differ"))
@@ -68,6 +72,8 @@ impl Archive {
             Call::Registers(regs) => self.registers(regs),
             Call::Part(frame) => self.part(frame),
             Call::Replay(run, stop, bytes, times) => self.replay(run, *stop, bytes, *times),
+            Call::Feed(bytes) => self.feed(bytes),
+            Call::Finish => self.finish(),
             Call::Read(length, at) => self.read(*length, *at as usize),
             Call::Write(length, at, q) => self.write(*length, *at as usize, q),
             Call::Into(kind, number) => vec![raw::to_register(*kind, *number); 2],
@@ -136,6 +142,24 @@ impl Archive {
         }
         self.state = run.state;
         vec![run.number, run.fuel, run.spent, run.stop_flag, run.cost]
+    }
+
+    fn feed(&mut self, bytes: &Range<usize>) -> Vec<u64> {
+        let tape = raw_tape(&self.tape, self.state);
+        let fed = raw::feed(tape, &mut self.words, &mut self.cells, &self.trace[bytes.clone()]);
+        let tape = self.taped(&fed.tape);
+        [vec![fed.number], tape].concat()
+    }
+
+    fn finish(&mut self) -> Vec<u64> {
+        let tape = raw_tape(&self.tape, self.state);
+        let finished = raw::finish(tape, &mut self.words, &mut self.cells);
+        self.taped(&finished)
+    }
+
+    fn taped(&mut self, tape: &raw::Tape) -> Vec<u64> {
+        (self.state, self.tape) = (tape.run.state, plain_tape(tape));
+        tape_tokens(&self.tape).iter().flat_map(Token::numbers).collect()
     }
 
     fn read(&self, length: usize, at: usize) -> Vec<u64> {

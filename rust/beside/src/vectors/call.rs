@@ -2,7 +2,7 @@
 
 use super::text::{Token, numbers};
 use crate::plain::{Flagged, HostFrame, Regs, Replay, Straight};
-use crate::reading::RECORD_BYTES;
+use crate::reading::{RECORD_BYTES, StraightTape};
 use std::ops::Range;
 
 /// The words of the nine kinds, 1 first.
@@ -20,6 +20,9 @@ pub enum Call {
     Part(HostFrame),
     /// A run, how its stop is told, the bytes that are replayed, and how many times.
     Replay(Replay, Flagged, Range<usize>, u64),
+    /// Bytes of the trace, the next block of the tape.
+    Feed(Range<usize>),
+    Finish,
     /// How many bytes there are, and where the record begins.
     Read(usize, u64),
     Write(usize, u64, Straight),
@@ -43,6 +46,8 @@ impl Call {
             Self::Registers(_) => "regs",
             Self::Part(_) => "part",
             Self::Replay(..) => "replay",
+            Self::Feed(_) => "feed",
+            Self::Finish => "finish",
             Self::Read(..) => "read",
             Self::Write(..) => "write",
             Self::Into(..) => "into",
@@ -65,6 +70,8 @@ impl Call {
                 let then = numbers(&[bytes.start as u64, bytes.end as u64, *times]);
                 [course(run, *stop), then].concat()
             }
+            Self::Feed(bytes) => numbers(&[bytes.start as u64, bytes.end as u64]),
+            Self::Finish => Vec::new(),
             Self::Read(length, at) => numbers(&[*length as u64, *at]),
             Self::Write(length, at, q) => [numbers(&[*length as u64, *at]), q.with_kind()].concat(),
             Self::Into(kind, number) | Self::From(kind, number) => numbers(&[*kind, *number]),
@@ -88,4 +95,10 @@ pub fn host(frame: &HostFrame) -> [u64; 4] {
 pub fn course(run: &Replay, stop: Flagged) -> Vec<Token> {
     let counts = numbers(&[run.number, run.fuel, run.spent]);
     [counts, vec![Token::pair(stop)]].concat()
+}
+
+/// A tape's twelve numbers, five of them the bytes that it keeps.
+pub fn tape_tokens(t: &StraightTape) -> Vec<Token> {
+    let then = numbers(&[t.held, t.end_flag]);
+    [course(&t.tape().run, t.stop), then, Token::bytes(&t.kept)].concat()
 }

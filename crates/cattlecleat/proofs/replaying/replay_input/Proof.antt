@@ -6,11 +6,11 @@ use Rattle.cattlecleat.proofs.replaying.replay_input.Statement.{stateme
 use Rattle.cattlecleat.proofs.replaying.replay_input.Tie as tie
 
 abbrev Inv-loop : tie.InvT-loop
-Inv-loop words₀ cells₀ block₀ text₀ run₀ left₀ words cells block text run left =
+Inv-loop words₀ cells₀ block₀ text₀ tape₀ used₀ left₀ words cells block text tape used left =
     (length words ≡ length words₀) × (length cells ≡ length cells₀) × (length block ≡ length block₀) × (length text ≡ length text₀)
 
 abbrev μ-loop : tie.MeasureT-loop
-μ-loop words₀ cells₀ block₀ text₀ run₀ left₀ words cells block text run left = left
+μ-loop words₀ cells₀ block₀ text₀ tape₀ used₀ left₀ words cells block text tape used left = left
 
 pub replay-input-spec : {M : Type 1} → statement M
 replay-input-spec =
@@ -20,18 +20,12 @@ replay-input-spec =
     μ-loop
     (λ c κs. search needs)
     (λ c κs. search needs)
-    (λ c. search needs)
-    (λ c. search needs)
     (λ c κs. search needs)
     (λ c. search needs)
     (λ c. search needs)
-    (λ c. search needs)
-    (λ c. search needs)
     (λ c κs. search needs)
-    (λ c. search needs)
-    (λ c. search needs)
-    (λ c. search needs)
-    (λ c. search needs)
+    (λ c κs. search needs)
+    (λ c κs. search needs)
     (λ c. search needs)
     (λ c. search needs)
     (λ c. search needs)

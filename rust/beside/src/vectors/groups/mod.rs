@@ -16,6 +16,7 @@ mod returns;
 mod scene;
 mod states;
 mod tails;
+mod tapes;
 
 use super::maker::{Made, Maker};
 
@@ -31,5 +32,6 @@ pub fn make(maker: &mut Maker) -> Made<()> {
     records::make(maker)?;
     requests::make(maker)?;
     replays::make(maker)?;
+    tapes::make(maker)?;
     leaves::make(maker)
 }

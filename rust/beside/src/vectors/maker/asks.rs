@@ -9,6 +9,7 @@ use crate::plain::{Answer, Flagged, HostFrame, KINDS, Regs, Replay, Request, Sta
 use crate::reading::{RECORD_BYTES, Reading, handed_back, read_record, replay, write_record};
 use crate::vectors::buffers::{BUFFER_CELLS, BUFFER_WORDS, refill};
 use crate::vectors::call::{Call, course};
+use crate::vectors::desk::NO_TAPE;
 use crate::vectors::line::first;
 use crate::vectors::lists::list;
 use crate::vectors::moves::Move;
@@ -17,7 +18,7 @@ use crate::vectors::text::numbers;
 use std::ops::Range;
 
 impl Maker {
-    /// Opens over refilled buffers: so many bytes, frames, words and cells.
+    /// Opens over refilled buffers: so many bytes, frames, words and cells. The tape is one of zeros from then on.
     pub fn open(&mut self, opening: [u64; 4]) -> Made<u64> {
         let [bytes, depth, words, cells] = opening;
         if words > BUFFER_WORDS as u64 || cells > BUFFER_CELLS as u64 {
@@ -25,7 +26,7 @@ impl Maker {
         }
         refill(&mut self.words, &mut self.cells);
         (self.lent, self.state) = ((words as usize, cells as usize), State::default());
-        self.current = anew(None);
+        (self.current, self.tape) = (anew(None), NO_TAPE);
         let before = self.world();
         let (number, after) = Reading::open(bytes, depth, before.words, before.cells);
         let opened = Rust::open(&Opening {

@@ -3,15 +3,16 @@
 mod asks;
 mod lays;
 mod leaves;
+mod tapes;
 mod told;
 
 use super::buffers::{BUFFER_CELLS, BUFFER_WORDS, FIRST_WORDS, TRACE_BYTES};
-use super::desk::Desk;
+use super::desk::{Desk, NO_TAPE};
 use super::ledger::Ledger;
 use super::text::Book;
 use crate::party::Party;
 use crate::plain::{Flagged, State, anew};
-use crate::reading::Reading;
+use crate::reading::{Reading, StraightTape};
 
 /// A step that failed: the parties differ, and how.
 pub type Made<T> = Result<T, String>;
@@ -27,9 +28,10 @@ pub struct Maker {
     /// How the state's current instance is told.
     current: Flagged,
     trace: Vec<u8>,
+    tape: StraightTape,
     /// Whether the buffers are told by sums.
     sums: bool,
-    /// Nothing after a line that the Rust cannot follow: a refused opening, a state, word or cell put in its place, a replay.
+    /// Nothing after a line that the Rust cannot follow: a refused opening, a state, word or cell put in its place, a replay, a block or an end.
     rust: Option<Box<dyn Party>>,
 }
 
@@ -44,6 +46,7 @@ impl Maker {
             state: State::default(),
             current: anew(None),
             trace: vec![0; TRACE_BYTES],
+            tape: NO_TAPE,
             sums: false,
             rust: None,
         }
@@ -67,7 +70,7 @@ impl Maker {
         self.cells.fill(0);
         self.trace.fill(0);
         (self.lent, self.state, self.sums, self.rust) = ((0, 0), State::default(), false, None);
-        self.current = anew(None);
+        (self.current, self.tape) = (anew(None), NO_TAPE);
     }
 
     /// An empty line and a comment above the lines that follow.
@@ -125,6 +128,7 @@ impl Maker {
             world: self.world(),
             current: self.current,
             trace: self.trace.clone(),
+            tape: self.tape,
         }
     }
 }

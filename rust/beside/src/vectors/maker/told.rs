@@ -29,13 +29,20 @@ impl Maker {
 
     /// A line on the stack: the world is this from then on, and told, the current instance so.
     pub(super) fn tell(&mut self, call: &Call, answer: Vec<Token>, world: Reading, current: Flagged) -> Made<()> {
+        let (trace, tape) = (self.trace.clone(), self.tape);
         let after = Desk {
             world,
             current,
-            trace: self.trace.clone(),
+            trace,
+            tape,
         };
-        self.compare(call, &answer, &after)?;
-        (self.state, self.current) = (after.world.state, current);
+        self.tell_after(call, answer, &after)
+    }
+
+    /// A line on the stack and the tape: the desk is this from then on, but for the trace.
+    pub(super) fn tell_after(&mut self, call: &Call, answer: Vec<Token>, after: &Desk) -> Made<()> {
+        self.compare(call, &answer, after)?;
+        (self.state, self.current, self.tape) = (after.world.state, after.current, after.tape);
         self.words[..self.lent.0].copy_from_slice(&after.world.words);
         self.cells[..self.lent.1].copy_from_slice(&after.world.cells);
         let state = state_tokens(&self.state, self.current);

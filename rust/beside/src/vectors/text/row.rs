@@ -6,7 +6,7 @@ use super::token::Token;
 const TOKENS: usize = 512;
 
 /// What begins with these words answers something else than an answer's number.
-const UNNUMBERED: [&str; 3] = ["into", "from", "replay"];
+const UNNUMBERED: [&str; 4] = ["into", "from", "replay", "finish"];
 
 #[derive(Clone, Debug, PartialEq, Eq)]
 pub struct Row {

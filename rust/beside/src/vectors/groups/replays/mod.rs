@@ -6,7 +6,7 @@ mod given;
 mod million;
 mod odd;
 mod parts;
-mod records;
+pub(super) mod records;
 mod rows;
 mod traces;
 
@@ -37,7 +37,7 @@ pub fn make(maker: &mut Maker) -> Made<()> {
 }
 
 /// A run that has so much fuel and nothing spent.
-fn fuelled(fuel: u64) -> Replay {
+pub(super) fn fuelled(fuel: u64) -> Replay {
     Replay { fuel, ..Replay::default() }
 }
 
@@ -53,7 +53,7 @@ fn stand(maker: &mut Maker) -> Made<()> {
 }
 
 /// Records from the trace's beginning on.
-fn lay(maker: &mut Maker, fields: &[Fields]) {
+pub(super) fn lay(maker: &mut Maker, fields: &[Fields]) {
     (0..).zip(fields).for_each(|(index, fields)| maker.lay(index, &record(*fields)));
 }
 

@@ -1,0 +1,3 @@
+pub mod Tapes
+pub mod Cuts
+pub mod AnyCuts

@@ -1,4 +1,5 @@
 // cattlecleat: replays a trace and prints document 01's listing of it.
+#![tactic(auto)]
 mod gathering;
 mod limits;
 mod output;

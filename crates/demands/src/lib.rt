@@ -1,1 +1,2 @@
 // Definitions and theorems alone: the demands, by the public functions' own promises.
+#![tactic(auto)]

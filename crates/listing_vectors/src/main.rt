@@ -1,5 +1,6 @@
 // Runs traces from data/ with a given fuel and prints their listings, three records a block; then as tapes, in blocks of any length. The expected
 // lines (stdout) are those of a plain reading of documents 01 and 02 (rust/beside/src/programs); none is taken from a run of this program.
+#![tactic(auto)]
 mod blocks;
 mod parts;
 mod say;

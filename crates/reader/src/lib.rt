@@ -1,5 +1,6 @@
 // A reader: it holds a lent trace and a place in it, and hands out one request after another. The decoder of the crate request does the work.
 // Functions over a Reader are proved by walks of their MIR; `next_two` has plain parameters, so its callers need none.
+#![tactic(auto)]
 ghost use Rattle.std.specs.Prelude.{◌≡◌};
 ghost use Rattle.request.specs.Walk.{shown_next, next_at};
 ghost use Rattle.reader.specs.Held.{reader_on, passed, shown_two, nexts_at};

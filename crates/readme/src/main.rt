@@ -1,5 +1,6 @@
 // README.md's blocks of Rattle, word for word (tools/snippets), with a line for each number that their comments claim. The expected lines
 // (stdout) are worked out from document 01 by hand; none is taken from a run of this program.
+#![tactic(auto)]
 mod say;
 
 use done::{DoneReason, DoneSlot};

@@ -1,4 +1,5 @@
 // Runs vectors, the files of text that its arguments name, through the C face, and compares every number. docs/VECTORS.md says how a line is read.
+#![tactic(auto)]
 ghost use Rattle.std.specs.Prelude.{◌≤◌};
 
 mod asking;

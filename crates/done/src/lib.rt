@@ -1,6 +1,7 @@
 // The done slot: `done_with` and `take_done_reason` of the Rust's `ExecContext`. It holds at most one reason why an execution halted.
 // Each call takes the slot and hands it back with the answer.
 #![tactic(auto)]
+
 ghost use Rattle.std.specs.Prelude.{◌≡◌};
 ghost use Rattle.done.specs.Done.{no_reason, shown_fill, filled, shown_take, taken};
 

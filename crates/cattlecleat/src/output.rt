@@ -1,17 +1,15 @@
 // Text on standard output, written whole unless a write fails.
-use crate::say::least;
-use crate::wait;
+use std::io;
+use std::io::{ErrorKind, Write};
 
-pub fn write_text(text: &[u8]) -> bool {
+pub fn write_text<W: Write>(output: &mut W, text: &[u8]) -> io::Result<()> {
     let mut done = 0;
     while done < text.len() {
-        let room = text.len() - done;
-        let put = wait::write(&text[done..]);
-        let more = least(io::count(put, text), room);
+        let more = output.write(&text[done..])?;
         if more == 0 {
-            return false;
+            return Err(io::Error::from(ErrorKind::WriteZero));
         }
         done += more;
     }
-    true
+    Ok(())
 }

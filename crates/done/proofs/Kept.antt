@@ -1,13 +1,13 @@
 -- What a refused call leaves, and that a reason put in is the one that comes out: of any answers that the functions' promises allow.
 -- Assumes nothing.
-use mathlib.Core.Path.{◌≡◌, refl, ap, ◌∙◌}
+use mathlib.Core.Path.{◌≡◌, ap, ◌∙◌}
 use Rattle.choice.specs.Choose.{choose}
 use Rattle.done.specs.declared.DoneReason.{DoneReason}
 use Rattle.done.specs.declared.DoneSlot.TheVariants.{Empty, Holds}
 use Rattle.done.specs.declared.AfterFill.{AfterFill}
 use Rattle.done.specs.declared.AfterTake.{AfterTake}
 use Rattle.done.specs.declared.Take.TheVariants.{Took}
-use Rattle.done.specs.Done.{ShownFill, fill_tests, filled, ShownTake, shown_take, take_tests, taken}
+use Rattle.done.specs.Done.{ShownFill, fill_tests, filled, ShownTake, take_tests, taken}
 use Rattle.done.proofs.Settled.{shown_take_once}
 use Rattle.done.proofs.DoneSlot.done_with.Reads as done-with
 use Rattle.done.proofs.DoneSlot.take_done_reason.Reads as take-done-reason

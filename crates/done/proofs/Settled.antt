@@ -14,7 +14,7 @@ use Rattle.done.specs.declared.Take.{Take}
 use Rattle.done.specs.declared.Take.TheVariants.{Took, NothingToTake}
 use Rattle.done.specs.declared.AfterFill.{AfterFill}
 use Rattle.done.specs.declared.AfterTake.{AfterTake}
-use Rattle.done.specs.Done.{reason_number, reason_value, ShownFill, fill_number, shown_fill, ShownTake, take_number, take_reason, take_value, shown_take}
+use Rattle.done.specs.Done.{reason_number, reason_value, ShownFill, shown_fill, ShownTake, shown_take}
 use Rattle.done.proofs.DoneSlot.empty.Reads as empty
 use Rattle.done.proofs.DoneSlot.done_with.Reads as done-with
 use Rattle.done.proofs.DoneSlot.take_done_reason.Reads as take-done-reason

@@ -1,6 +1,7 @@
 // The done slot: `done_with` and `take_done_reason` of the Rust's `ExecContext`. It holds at most one reason why an execution halted.
 // Each call takes the slot and hands it back with the answer.
 #![tactic(auto)]
+
 ghost use Rattle.std.specs.Prelude.{◌≡◌};
 ghost use Rattle.done.specs.Done.{no_reason, shown_fill, filled, shown_take, taken};
 
@@ -10,7 +11,7 @@ pub const ALREADY_FILLED: u64 = 12;
 pub const NOTHING_TO_TAKE: u64 = 13;
 
 // Why an execution halted. The two errors carry no number.
-#[derive(Drop)]
+#[derive(Clone, Copy)]
 pub enum DoneReason {
     Returned(u64),
     HostError,
@@ -18,31 +19,31 @@ pub enum DoneReason {
     Error,
 }
 
-#[derive(Drop)]
+#[derive(Clone, Copy)]
 pub enum DoneSlot {
     Empty,
     Holds(DoneReason),
 }
 
-#[derive(Drop)]
+#[derive(Clone, Copy)]
 pub enum Fill {
     Done,
     AlreadyFilled,
 }
 
-#[derive(Drop)]
+#[derive(Clone, Copy)]
 pub struct AfterFill {
     pub answer: Fill,
     pub slot: DoneSlot,
 }
 
-#[derive(Drop)]
+#[derive(Clone, Copy)]
 pub enum Take {
     Took(DoneReason),
     NothingToTake,
 }
 
-#[derive(Drop)]
+#[derive(Clone, Copy)]
 pub struct AfterTake {
     pub answer: Take,
     pub slot: DoneSlot,

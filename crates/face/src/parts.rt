@@ -9,7 +9,7 @@ use stack::refusal_number;
 use stack_hosts::judge_host_part;
 
 #[repr(C)]
-#[derive(Drop)]
+#[derive(Clone, Copy)]
 pub struct CPart {
     pub number: u64,
     pub offset: usize,

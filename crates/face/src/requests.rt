@@ -29,7 +29,7 @@ pub const SET: u64 = record::SET as u64;
 
 // A request asks by what its kind uses, and spells a record with all that it has.
 #[repr(C)]
-#[derive(Drop)]
+#[derive(Clone, Copy)]
 pub struct CRequest {
     pub kind: u64,
     pub head: u16,

@@ -8,7 +8,7 @@ use regs::{Registers, from_bool, to_bool};
 use rules::State;
 
 #[repr(C)]
-#[derive(Drop)]
+#[derive(Clone, Copy)]
 pub struct CState {
     pub depth: usize,
     pub height: usize,

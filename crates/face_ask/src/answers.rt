@@ -10,7 +10,7 @@ use rules::{Answer, Outcome, Values};
 use stack::{no_host, refusal_number};
 
 #[repr(C)]
-#[derive(Drop)]
+#[derive(Clone, Copy)]
 pub struct CAnswer {
     pub number: u64,
     pub offset: usize,

@@ -25,7 +25,7 @@ const I32: u64 = 7;
 const BOOL: u64 = 9;
 
 #[repr(C)]
-#[derive(Drop)]
+#[derive(Clone, Copy)]
 pub struct CAligned {
     pub number: u64,
     pub address: u64,

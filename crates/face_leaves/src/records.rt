@@ -11,7 +11,7 @@ use face::{CRequest, SET, request_to};
 use record::{BAD_RECORD, Read, Record, Written, ZERO_RECORD, read_record, write_record};
 
 #[repr(C)]
-#[derive(Drop)]
+#[derive(Clone, Copy)]
 pub struct CRead {
     pub number: u64,
     pub request: CRequest,

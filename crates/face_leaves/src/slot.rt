@@ -7,14 +7,14 @@ ghost use Rattle.face_leaves.specs.Slots.{reason_said, reason_to, reason_with, d
 use done::{ALREADY_FILLED, DoneReason, DoneSlot, Fill, NOTHING_TO_TAKE, Take};
 
 #[repr(C)]
-#[derive(Drop)]
+#[derive(Clone, Copy)]
 pub struct CReason {
     pub kind: u64,
     pub amount: u64,
 }
 
 #[repr(C)]
-#[derive(Drop)]
+#[derive(Clone, Copy)]
 pub struct CDone {
     pub number: u64,
     pub reason: CReason,

@@ -9,7 +9,7 @@ use stack::{answer_number, answer_offset, no_host, refusal_number};
 
 // Two registers of the machine.
 #[repr(C)]
-#[derive(Drop)]
+#[derive(Clone, Copy)]
 pub struct COffset {
     pub number: u64,
     pub offset: usize,
@@ -17,7 +17,7 @@ pub struct COffset {
 
 // A frame to go on with: its start, its ip, and the instance to wake.
 #[repr(C)]
-#[derive(Drop)]
+#[derive(Clone, Copy)]
 pub struct CFrame {
     pub number: u64,
     pub offset: usize,
@@ -27,7 +27,7 @@ pub struct CFrame {
 
 // A host's frame over the newest one.
 #[repr(C)]
-#[derive(Drop)]
+#[derive(Clone, Copy)]
 pub struct CHosted {
     pub number: u64,
     pub offset: usize,
@@ -36,7 +36,7 @@ pub struct CHosted {
 
 // A host's frame in place of the newest one, and the frame below.
 #[repr(C)]
-#[derive(Drop)]
+#[derive(Clone, Copy)]
 pub struct CReturned {
     pub number: u64,
     pub offset: usize,

@@ -8,7 +8,7 @@ use regs::{from_bool, to_bool};
 use rules::State;
 
 // A flag and the number beside it.
-#[derive(Drop)]
+#[derive(Clone, Copy)]
 pub struct Flagged {
     pub flag: u64,
     pub number: u64,

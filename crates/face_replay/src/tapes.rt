@@ -10,7 +10,7 @@ use tape::{Fed, Tape, feed, finish};
 
 // A tape in its course.
 #[repr(C)]
-#[derive(Drop)]
+#[derive(Clone, Copy)]
 pub struct CTape {
     pub run: CRun,
     pub kept: [u8; RECORD_SIZE],
@@ -20,7 +20,7 @@ pub struct CTape {
 
 // A number, and the tape after it.
 #[repr(C)]
-#[derive(Drop)]
+#[derive(Clone, Copy)]
 pub struct CFed {
     pub number: u64,
     pub tape: CTape,

@@ -11,7 +11,7 @@ use replay::{Run, replay};
 
 // A replay in its course.
 #[repr(C)]
-#[derive(Drop)]
+#[derive(Clone, Copy)]
 pub struct CRun {
     pub state: CState,
     pub number: u64,

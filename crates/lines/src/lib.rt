@@ -6,7 +6,7 @@ ghost use Rattle.lines.specs.Text.{line_text, stopped_text, spent_text, shown_te
 ghost use Rattle.lines.specs.Pieces.{number_room, ended_number, text_laid};
 
 // What a line says of a record: its number, the answer, the offset, and the depth and `len` after it.
-#[derive(Drop)]
+#[derive(Clone, Copy)]
 pub struct Line {
     pub number: u64,
     pub answer: u64,

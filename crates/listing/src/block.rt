@@ -10,14 +10,14 @@ use record::RECORD_SIZE;
 use replay::{Run, run_next};
 
 // A run after a block, with how many bytes its lines are.
-#[derive(Drop)]
+#[derive(Clone, Copy)]
 pub struct Listed {
     pub run: Run,
     pub used: usize,
 }
 
 // A run after a record, with the place of the next, and the place behind the lines so far.
-#[derive(Drop)]
+#[derive(Clone, Copy)]
 pub struct Step {
     pub run: Run,
     pub next: usize,

@@ -15,14 +15,14 @@ use replay::Run;
 use tape::{Tape, cut_block, held_count, hold};
 
 // What a block or an end was answered: done, with how many bytes its lines are; refused with 22; or with 19, no room for them.
-#[derive(Drop)]
+#[derive(Clone, Copy)]
 pub enum FedLines {
     Done(usize),
     Refused,
     NoRoom,
 }
 
-#[derive(Drop)]
+#[derive(Clone, Copy)]
 pub struct ListedFeeding {
     pub fed: FedLines,
     pub tape: Tape,

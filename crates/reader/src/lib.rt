@@ -13,7 +13,7 @@ pub struct Reader<'a> {
     pub at: usize,
 }
 
-#[derive(Drop)]
+#[derive(Clone, Copy)]
 pub struct Two {
     pub first: Next,
     pub second: Next,

@@ -10,7 +10,7 @@ use regs::Registers;
 use rules::{Outcome, Refusal, State};
 use stack::{answer_number, answer_offset, refusal_number};
 
-#[derive(Drop)]
+#[derive(Clone, Copy)]
 pub struct Fixed {
     pub depth: usize,
     pub height: usize,
@@ -20,7 +20,7 @@ pub struct Fixed {
 }
 
 // A flag and a number stand for the current instance; beside a flag that is not set the number says nothing.
-#[derive(Drop)]
+#[derive(Clone, Copy)]
 pub struct Moving {
     pub count: usize,
     pub len: usize,
@@ -34,7 +34,7 @@ pub struct Moving {
 }
 
 // After a record: whether the run stopped before it, at which cost, and what is answered.
-#[derive(Drop)]
+#[derive(Clone, Copy)]
 pub struct Went {
     pub moving: Moving,
     pub stopped: bool,

@@ -12,7 +12,7 @@ use rules::State;
 
 // A replay in its course: the stack's state, the number of the next record, the fuel given and what is spent of it; and the cost of the record
 // that it stopped before, where it has stopped.
-#[derive(Drop)]
+#[derive(Clone, Copy)]
 pub struct Run {
     pub state: State,
     pub number: u64,
@@ -22,7 +22,7 @@ pub struct Run {
 }
 
 // A run after a record, with what is answered; zeros where the record was not run.
-#[derive(Drop)]
+#[derive(Clone, Copy)]
 pub struct Ran {
     pub run: Run,
     pub answer: u64,

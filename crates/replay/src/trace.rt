@@ -14,7 +14,7 @@ use record::{BAD_RECORD, RECORD_SIZE};
 use request::place_after;
 
 // A run after the record at a place, with the place of the next.
-#[derive(Drop)]
+#[derive(Clone, Copy)]
 pub struct Turn {
     pub ran: Ran,
     pub next: usize,

@@ -13,14 +13,14 @@ pub use encode::record_of;
 use record::{RECORD_SIZE, Read, Record, Written, is_lawful, read_record, write_record};
 use rules::Request;
 
-#[derive(Drop)]
+#[derive(Clone, Copy)]
 pub enum Decoded {
     Asks(Request),
     Bad,
 }
 
 // What stands at a place of a trace: a request, or bytes that are none (10), each with the place of the next; or nothing, at the end.
-#[derive(Drop)]
+#[derive(Clone, Copy)]
 pub enum Next {
     Asks(Request, usize),
     Bad(usize),

@@ -9,7 +9,7 @@ use record::RECORD_SIZE;
 
 // `first` is the record that was unfinished, whole now where `from` is not 0: so many bytes of the block are in it. The block's own whole records lie from
 // `from` up to `to`, and `left` bytes of `rest` begin another: those behind them, or where no record was completed all that are there.
-#[derive(Drop)]
+#[derive(Clone, Copy)]
 pub struct Cut {
     pub first: [u8; RECORD_SIZE],
     pub from: usize,

@@ -8,7 +8,7 @@ use replay::Run;
 
 // A replay in its course, the bytes of an unfinished record with how many they are, and whether the end was told. Every value has its meaning: more
 // than 39 held bytes count as 39.
-#[derive(Drop)]
+#[derive(Clone, Copy)]
 pub struct Tape {
     pub run: Run,
     pub kept: [u8; RECORD_SIZE],
@@ -17,13 +17,13 @@ pub struct Tape {
 }
 
 // What a block was answered: done, or refused with 22.
-#[derive(Drop)]
+#[derive(Clone, Copy)]
 pub enum Fed {
     Done,
     Refused,
 }
 
-#[derive(Drop)]
+#[derive(Clone, Copy)]
 pub struct Feeding {
     pub fed: Fed,
     pub tape: Tape,

@@ -1,6 +1,5 @@
 -- Demands 1 and 2 of requests, from the verdicts of rules. Assumes nothing.
-use mathlib.Core.Path.{◌≡◌, sym, subst, ◌∙◌}
-use Rattle.rules.specs.Rules.{answered}
+use mathlib.Core.Path.{sym, subst, ◌∙◌}
 use Rattle.rules.specs.Returning.{Accepted}
 use Rattle.rules.proofs.Verdicts.{exactly_then, accepted_then, done_then, refused_unchanged}
 use Rattle.demands.specs.Answers.{RefusedExactly, RequestsRefused, RequestsFollow, HistoriesFollow}

@@ -3,10 +3,10 @@ use mathlib.Core.Path.{◌≡◌, refl, sym, ap, ◌∙◌}
 use mathlib.Core.List.{List, []}
 use mathlib.Core.Logic.{◌↔◌}
 use Prim.Native.Nat.{ℕ, ◌≤◌}
-use lib.Dec.{leb, lit≤}
+use lib.Dec.{lit≤}
 use borrow.Author.Tests.{le-leb}
 use Rattle.choice.specs.Choose.{choose}
-use Rattle.choice.specs.Tests.{FirstIs, here, there}
+use Rattle.choice.specs.Tests.{FirstIs, there}
 use Rattle.regs.specs.Registers.{zero_registers}
 use Rattle.rules.specs.declared.State.{State}
 use Rattle.rules.specs.declared.Request.TheVariants.{Push, Pop, Replace, Host, ReturnHost, Sync, Restore, Reset, Set}

@@ -215,7 +215,7 @@ use Rattle.face_replay.specs.contracts.cattlecleat_replay as face-replay-cattlec
 use Rattle.demands.specs.Settled.{Settled}
 
 pub settled-given-given-if :
-    Settled given-given-if.ended (λ M. given-given-if.clauses {M = M}) (λ κ r. r)
+    Settled given-given-if.ended (λ M 𝓤 𝓛. given-given-if.clauses 𝓛) (λ κ r. r)
 settled-given-given-if = record {
   Post = λ κ a r e. _;
   asks_nothing = λ M 𝓤 𝓛 mem run κ a g. refl;
@@ -229,7 +229,7 @@ settled-given-given-if = record {
 }
 
 pub settled-given-given-number :
-    Settled given-given-number.ended (λ M. given-given-number.clauses {M = M}) (λ κ r. r)
+    Settled given-given-number.ended (λ M 𝓤 𝓛. given-given-number.clauses 𝓛) (λ κ r. r)
 settled-given-given-number = record {
   Post = λ κ a r e. _;
   asks_nothing = λ M 𝓤 𝓛 mem run κ a g. refl;
@@ -243,7 +243,7 @@ settled-given-given-number = record {
 }
 
 pub settled-given-is-given :
-    Settled given-is-given.ended (λ M. given-is-given.clauses {M = M}) (λ κ r. r)
+    Settled given-is-given.ended (λ M 𝓤 𝓛. given-is-given.clauses 𝓛) (λ κ r. r)
 settled-given-is-given = record {
   Post = λ κ a r e. _;
   asks_nothing = λ M 𝓤 𝓛 mem run κ a g. refl;
@@ -257,7 +257,7 @@ settled-given-is-given = record {
 }
 
 pub settled-given-or-else :
-    Settled given-or-else.ended (λ M. given-or-else.clauses {M = M}) (λ κ r. r)
+    Settled given-or-else.ended (λ M 𝓤 𝓛. given-or-else.clauses 𝓛) (λ κ r. r)
 settled-given-or-else = record {
   Post = λ κ a r e. _;
   asks_nothing = λ M 𝓤 𝓛 mem run κ a g. refl;
@@ -271,7 +271,7 @@ settled-given-or-else = record {
 }
 
 pub settled-regs-align-relative-to :
-    Settled regs-align-relative-to.ended (λ M. regs-align-relative-to.clauses {M = M}) (λ κ r. r)
+    Settled regs-align-relative-to.ended (λ M 𝓤 𝓛. regs-align-relative-to.clauses 𝓛) (λ κ r. r)
 settled-regs-align-relative-to = record {
   Post = λ κ a r e. _;
   asks_nothing = λ M 𝓤 𝓛 mem run κ a g. refl;
@@ -285,7 +285,7 @@ settled-regs-align-relative-to = record {
 }
 
 pub settled-regs-from-bool :
-    Settled regs-from-bool.ended (λ M. regs-from-bool.clauses {M = M}) (λ κ r. r)
+    Settled regs-from-bool.ended (λ M 𝓤 𝓛. regs-from-bool.clauses 𝓛) (λ κ r. r)
 settled-regs-from-bool = record {
   Post = λ κ a r e. _;
   asks_nothing = λ M 𝓤 𝓛 mem run κ a g. refl;
@@ -299,7 +299,7 @@ settled-regs-from-bool = record {
 }
 
 pub settled-regs-from-i16 :
-    Settled regs-from-i16.ended (λ M. regs-from-i16.clauses {M = M}) (λ κ r. r)
+    Settled regs-from-i16.ended (λ M 𝓤 𝓛. regs-from-i16.clauses 𝓛) (λ κ r. r)
 settled-regs-from-i16 = record {
   Post = λ κ a r e. _;
   asks_nothing = λ M 𝓤 𝓛 mem run κ a g. refl;
@@ -313,7 +313,7 @@ settled-regs-from-i16 = record {
 }
 
 pub settled-regs-from-i32 :
-    Settled regs-from-i32.ended (λ M. regs-from-i32.clauses {M = M}) (λ κ r. r)
+    Settled regs-from-i32.ended (λ M 𝓤 𝓛. regs-from-i32.clauses 𝓛) (λ κ r. r)
 settled-regs-from-i32 = record {
   Post = λ κ a r e. _;
   asks_nothing = λ M 𝓤 𝓛 mem run κ a g. refl;
@@ -327,7 +327,7 @@ settled-regs-from-i32 = record {
 }
 
 pub settled-regs-from-i64 :
-    Settled regs-from-i64.ended (λ M. regs-from-i64.clauses {M = M}) (λ κ r. r)
+    Settled regs-from-i64.ended (λ M 𝓤 𝓛. regs-from-i64.clauses 𝓛) (λ κ r. r)
 settled-regs-from-i64 = record {
   Post = λ κ a r e. _;
   asks_nothing = λ M 𝓤 𝓛 mem run κ a g. refl;
@@ -341,7 +341,7 @@ settled-regs-from-i64 = record {
 }
 
 pub settled-regs-from-i8 :
-    Settled regs-from-i8.ended (λ M. regs-from-i8.clauses {M = M}) (λ κ r. r)
+    Settled regs-from-i8.ended (λ M 𝓤 𝓛. regs-from-i8.clauses 𝓛) (λ κ r. r)
 settled-regs-from-i8 = record {
   Post = λ κ a r e. _;
   asks_nothing = λ M 𝓤 𝓛 mem run κ a g. refl;
@@ -355,7 +355,7 @@ settled-regs-from-i8 = record {
 }
 
 pub settled-regs-from-u16 :
-    Settled regs-from-u16.ended (λ M. regs-from-u16.clauses {M = M}) (λ κ r. r)
+    Settled regs-from-u16.ended (λ M 𝓤 𝓛. regs-from-u16.clauses 𝓛) (λ κ r. r)
 settled-regs-from-u16 = record {
   Post = λ κ a r e. _;
   asks_nothing = λ M 𝓤 𝓛 mem run κ a g. refl;
@@ -369,7 +369,7 @@ settled-regs-from-u16 = record {
 }
 
 pub settled-regs-from-u32 :
-    Settled regs-from-u32.ended (λ M. regs-from-u32.clauses {M = M}) (λ κ r. r)
+    Settled regs-from-u32.ended (λ M 𝓤 𝓛. regs-from-u32.clauses 𝓛) (λ κ r. r)
 settled-regs-from-u32 = record {
   Post = λ κ a r e. _;
   asks_nothing = λ M 𝓤 𝓛 mem run κ a g. refl;
@@ -383,7 +383,7 @@ settled-regs-from-u32 = record {
 }
 
 pub settled-regs-from-u64 :
-    Settled regs-from-u64.ended (λ M. regs-from-u64.clauses {M = M}) (λ κ r. r)
+    Settled regs-from-u64.ended (λ M 𝓤 𝓛. regs-from-u64.clauses 𝓛) (λ κ r. r)
 settled-regs-from-u64 = record {
   Post = λ κ a r e. _;
   asks_nothing = λ M 𝓤 𝓛 mem run κ a g. refl;
@@ -397,7 +397,7 @@ settled-regs-from-u64 = record {
 }
 
 pub settled-regs-from-u8 :
-    Settled regs-from-u8.ended (λ M. regs-from-u8.clauses {M = M}) (λ κ r. r)
+    Settled regs-from-u8.ended (λ M 𝓤 𝓛. regs-from-u8.clauses 𝓛) (λ κ r. r)
 settled-regs-from-u8 = record {
   Post = λ κ a r e. _;
   asks_nothing = λ M 𝓤 𝓛 mem run κ a g. refl;
@@ -411,7 +411,7 @@ settled-regs-from-u8 = record {
 }
 
 pub settled-regs-registers-Registers-read-freg32 :
-    Settled regs-registers-Registers-read-freg32.ended (λ M. regs-registers-Registers-read-freg32.clauses {M = M}) (λ κ r. r)
+    Settled regs-registers-Registers-read-freg32.ended (λ M 𝓤 𝓛. regs-registers-Registers-read-freg32.clauses 𝓛) (λ κ r. r)
 settled-regs-registers-Registers-read-freg32 = record {
   Post = λ κ a r e. _;
   asks_nothing = λ M 𝓤 𝓛 mem run κ a g. refl;
@@ -425,7 +425,7 @@ settled-regs-registers-Registers-read-freg32 = record {
 }
 
 pub settled-regs-registers-Registers-read-freg64 :
-    Settled regs-registers-Registers-read-freg64.ended (λ M. regs-registers-Registers-read-freg64.clauses {M = M}) (λ κ r. r)
+    Settled regs-registers-Registers-read-freg64.ended (λ M 𝓤 𝓛. regs-registers-Registers-read-freg64.clauses 𝓛) (λ κ r. r)
 settled-regs-registers-Registers-read-freg64 = record {
   Post = λ κ a r e. _;
   asks_nothing = λ M 𝓤 𝓛 mem run κ a g. refl;
@@ -439,7 +439,7 @@ settled-regs-registers-Registers-read-freg64 = record {
 }
 
 pub settled-regs-registers-Registers-read-ireg :
-    Settled regs-registers-Registers-read-ireg.ended (λ M. regs-registers-Registers-read-ireg.clauses {M = M}) (λ κ r. r)
+    Settled regs-registers-Registers-read-ireg.ended (λ M 𝓤 𝓛. regs-registers-Registers-read-ireg.clauses 𝓛) (λ κ r. r)
 settled-regs-registers-Registers-read-ireg = record {
   Post = λ κ a r e. _;
   asks_nothing = λ M 𝓤 𝓛 mem run κ a g. refl;
@@ -453,7 +453,7 @@ settled-regs-registers-Registers-read-ireg = record {
 }
 
 pub settled-regs-registers-Registers-stored :
-    Settled regs-registers-Registers-stored.ended (λ M. regs-registers-Registers-stored.clauses {M = M}) (λ κ r. r)
+    Settled regs-registers-Registers-stored.ended (λ M 𝓤 𝓛. regs-registers-Registers-stored.clauses 𝓛) (λ κ r. r)
 settled-regs-registers-Registers-stored = record {
   Post = λ κ a r e. _;
   asks_nothing = λ M 𝓤 𝓛 mem run κ a g. refl;
@@ -467,7 +467,7 @@ settled-regs-registers-Registers-stored = record {
 }
 
 pub settled-regs-registers-Registers-with-freg32 :
-    Settled regs-registers-Registers-with-freg32.ended (λ M. regs-registers-Registers-with-freg32.clauses {M = M}) (λ κ r. r)
+    Settled regs-registers-Registers-with-freg32.ended (λ M 𝓤 𝓛. regs-registers-Registers-with-freg32.clauses 𝓛) (λ κ r. r)
 settled-regs-registers-Registers-with-freg32 = record {
   Post = λ κ a r e. _;
   asks_nothing = λ M 𝓤 𝓛 mem run κ a g. refl;
@@ -481,7 +481,7 @@ settled-regs-registers-Registers-with-freg32 = record {
 }
 
 pub settled-regs-registers-Registers-with-freg64 :
-    Settled regs-registers-Registers-with-freg64.ended (λ M. regs-registers-Registers-with-freg64.clauses {M = M}) (λ κ r. r)
+    Settled regs-registers-Registers-with-freg64.ended (λ M 𝓤 𝓛. regs-registers-Registers-with-freg64.clauses 𝓛) (λ κ r. r)
 settled-regs-registers-Registers-with-freg64 = record {
   Post = λ κ a r e. _;
   asks_nothing = λ M 𝓤 𝓛 mem run κ a g. refl;
@@ -495,7 +495,7 @@ settled-regs-registers-Registers-with-freg64 = record {
 }
 
 pub settled-regs-registers-Registers-with-ireg :
-    Settled regs-registers-Registers-with-ireg.ended (λ M. regs-registers-Registers-with-ireg.clauses {M = M}) (λ κ r. r)
+    Settled regs-registers-Registers-with-ireg.ended (λ M 𝓤 𝓛. regs-registers-Registers-with-ireg.clauses 𝓛) (λ κ r. r)
 settled-regs-registers-Registers-with-ireg = record {
   Post = λ κ a r e. _;
   asks_nothing = λ M 𝓤 𝓛 mem run κ a g. refl;
@@ -509,7 +509,7 @@ settled-regs-registers-Registers-with-ireg = record {
 }
 
 pub settled-regs-registers-Registers-zeroed :
-    Settled regs-registers-Registers-zeroed.ended (λ M. regs-registers-Registers-zeroed.clauses {M = M}) (λ κ r. r)
+    Settled regs-registers-Registers-zeroed.ended (λ M 𝓤 𝓛. regs-registers-Registers-zeroed.clauses 𝓛) (λ κ r. r)
 settled-regs-registers-Registers-zeroed = record {
   Post = λ κ a r e. _;
   asks_nothing = λ M 𝓤 𝓛 mem run κ a g. refl;
@@ -523,7 +523,7 @@ settled-regs-registers-Registers-zeroed = record {
 }
 
 pub settled-regs-to-bool :
-    Settled regs-to-bool.ended (λ M. regs-to-bool.clauses {M = M}) (λ κ r. r)
+    Settled regs-to-bool.ended (λ M 𝓤 𝓛. regs-to-bool.clauses 𝓛) (λ κ r. r)
 settled-regs-to-bool = record {
   Post = λ κ a r e. _;
   asks_nothing = λ M 𝓤 𝓛 mem run κ a g. refl;
@@ -537,7 +537,7 @@ settled-regs-to-bool = record {
 }
 
 pub settled-regs-to-i16 :
-    Settled regs-to-i16.ended (λ M. regs-to-i16.clauses {M = M}) (λ κ r. r)
+    Settled regs-to-i16.ended (λ M 𝓤 𝓛. regs-to-i16.clauses 𝓛) (λ κ r. r)
 settled-regs-to-i16 = record {
   Post = λ κ a r e. _;
   asks_nothing = λ M 𝓤 𝓛 mem run κ a g. refl;
@@ -551,7 +551,7 @@ settled-regs-to-i16 = record {
 }
 
 pub settled-regs-to-i32 :
-    Settled regs-to-i32.ended (λ M. regs-to-i32.clauses {M = M}) (λ κ r. r)
+    Settled regs-to-i32.ended (λ M 𝓤 𝓛. regs-to-i32.clauses 𝓛) (λ κ r. r)
 settled-regs-to-i32 = record {
   Post = λ κ a r e. _;
   asks_nothing = λ M 𝓤 𝓛 mem run κ a g. refl;
@@ -565,7 +565,7 @@ settled-regs-to-i32 = record {
 }
 
 pub settled-regs-to-i64 :
-    Settled regs-to-i64.ended (λ M. regs-to-i64.clauses {M = M}) (λ κ r. r)
+    Settled regs-to-i64.ended (λ M 𝓤 𝓛. regs-to-i64.clauses 𝓛) (λ κ r. r)
 settled-regs-to-i64 = record {
   Post = λ κ a r e. _;
   asks_nothing = λ M 𝓤 𝓛 mem run κ a g. refl;
@@ -579,7 +579,7 @@ settled-regs-to-i64 = record {
 }
 
 pub settled-regs-to-i8 :
-    Settled regs-to-i8.ended (λ M. regs-to-i8.clauses {M = M}) (λ κ r. r)
+    Settled regs-to-i8.ended (λ M 𝓤 𝓛. regs-to-i8.clauses 𝓛) (λ κ r. r)
 settled-regs-to-i8 = record {
   Post = λ κ a r e. _;
   asks_nothing = λ M 𝓤 𝓛 mem run κ a g. refl;
@@ -593,7 +593,7 @@ settled-regs-to-i8 = record {
 }
 
 pub settled-regs-to-u16 :
-    Settled regs-to-u16.ended (λ M. regs-to-u16.clauses {M = M}) (λ κ r. r)
+    Settled regs-to-u16.ended (λ M 𝓤 𝓛. regs-to-u16.clauses 𝓛) (λ κ r. r)
 settled-regs-to-u16 = record {
   Post = λ κ a r e. _;
   asks_nothing = λ M 𝓤 𝓛 mem run κ a g. refl;
@@ -607,7 +607,7 @@ settled-regs-to-u16 = record {
 }
 
 pub settled-regs-to-u32 :
-    Settled regs-to-u32.ended (λ M. regs-to-u32.clauses {M = M}) (λ κ r. r)
+    Settled regs-to-u32.ended (λ M 𝓤 𝓛. regs-to-u32.clauses 𝓛) (λ κ r. r)
 settled-regs-to-u32 = record {
   Post = λ κ a r e. _;
   asks_nothing = λ M 𝓤 𝓛 mem run κ a g. refl;
@@ -621,7 +621,7 @@ settled-regs-to-u32 = record {
 }
 
 pub settled-regs-to-u64 :
-    Settled regs-to-u64.ended (λ M. regs-to-u64.clauses {M = M}) (λ κ r. r)
+    Settled regs-to-u64.ended (λ M 𝓤 𝓛. regs-to-u64.clauses 𝓛) (λ κ r. r)
 settled-regs-to-u64 = record {
   Post = λ κ a r e. _;
   asks_nothing = λ M 𝓤 𝓛 mem run κ a g. refl;
@@ -635,7 +635,7 @@ settled-regs-to-u64 = record {
 }
 
 pub settled-regs-to-u8 :
-    Settled regs-to-u8.ended (λ M. regs-to-u8.clauses {M = M}) (λ κ r. r)
+    Settled regs-to-u8.ended (λ M 𝓤 𝓛. regs-to-u8.clauses 𝓛) (λ κ r. r)
 settled-regs-to-u8 = record {
   Post = λ κ a r e. _;
   asks_nothing = λ M 𝓤 𝓛 mem run κ a g. refl;
@@ -649,7 +649,7 @@ settled-regs-to-u8 = record {
 }
 
 pub settled-done-DoneSlot-done-with :
-    Settled done-DoneSlot-done-with.ended (λ M. done-DoneSlot-done-with.clauses {M = M}) (λ κ r. r)
+    Settled done-DoneSlot-done-with.ended (λ M 𝓤 𝓛. done-DoneSlot-done-with.clauses 𝓛) (λ κ r. r)
 settled-done-DoneSlot-done-with = record {
   Post = λ κ a r e. _;
   asks_nothing = λ M 𝓤 𝓛 mem run κ a g. refl;
@@ -663,7 +663,7 @@ settled-done-DoneSlot-done-with = record {
 }
 
 pub settled-done-DoneSlot-empty :
-    Settled done-DoneSlot-empty.ended (λ M. done-DoneSlot-empty.clauses {M = M}) (λ κ r. r)
+    Settled done-DoneSlot-empty.ended (λ M 𝓤 𝓛. done-DoneSlot-empty.clauses 𝓛) (λ κ r. r)
 settled-done-DoneSlot-empty = record {
   Post = λ κ a r e. _;
   asks_nothing = λ M 𝓤 𝓛 mem run κ a g. refl;
@@ -677,7 +677,7 @@ settled-done-DoneSlot-empty = record {
 }
 
 pub settled-done-DoneSlot-take-done-reason :
-    Settled done-DoneSlot-take-done-reason.ended (λ M. done-DoneSlot-take-done-reason.clauses {M = M}) (λ κ r. r)
+    Settled done-DoneSlot-take-done-reason.ended (λ M 𝓤 𝓛. done-DoneSlot-take-done-reason.clauses 𝓛) (λ κ r. r)
 settled-done-DoneSlot-take-done-reason = record {
   Post = λ κ a r e. _;
   asks_nothing = λ M 𝓤 𝓛 mem run κ a g. refl;
@@ -691,7 +691,7 @@ settled-done-DoneSlot-take-done-reason = record {
 }
 
 pub settled-frames-carried :
-    Settled frames-carried.ended (λ M. frames-carried.clauses {M = M}) (λ κ r. r)
+    Settled frames-carried.ended (λ M 𝓤 𝓛. frames-carried.clauses 𝓛) (λ κ r. r)
 settled-frames-carried = record {
   Post = λ κ a r e. _;
   asks_nothing = λ M 𝓤 𝓛 mem run κ a g. refl;
@@ -705,7 +705,7 @@ settled-frames-carried = record {
 }
 
 pub settled-frames-debt-of :
-    Settled frames-debt-of.ended (λ M. frames-debt-of.clauses {M = M}) (λ κ r. r)
+    Settled frames-debt-of.ended (λ M 𝓤 𝓛. frames-debt-of.clauses 𝓛) (λ κ r. r)
 settled-frames-debt-of = record {
   Post = λ κ a r e. _;
   asks_nothing = λ M 𝓤 𝓛 mem run κ a g. refl;
@@ -719,7 +719,7 @@ settled-frames-debt-of = record {
 }
 
 pub settled-frames-is-broken :
-    Settled frames-is-broken.ended (λ M. frames-is-broken.clauses {M = M}) (λ κ r. r)
+    Settled frames-is-broken.ended (λ M 𝓤 𝓛. frames-is-broken.clauses 𝓛) (λ κ r. r)
 settled-frames-is-broken = record {
   Post = λ κ a r e. _;
   asks_nothing = λ M 𝓤 𝓛 mem run κ a g. refl;
@@ -733,7 +733,7 @@ settled-frames-is-broken = record {
 }
 
 pub settled-frames-new-row :
-    Settled frames-new-row.ended (λ M. frames-new-row.clauses {M = M}) (λ κ r. r)
+    Settled frames-new-row.ended (λ M 𝓤 𝓛. frames-new-row.clauses 𝓛) (λ κ r. r)
 settled-frames-new-row = record {
   Post = λ κ a r e. _;
   asks_nothing = λ M 𝓤 𝓛 mem run κ a g. refl;
@@ -747,7 +747,7 @@ settled-frames-new-row = record {
 }
 
 pub settled-frames-owing :
-    Settled frames-owing.ended (λ M. frames-owing.clauses {M = M}) (λ κ r. r)
+    Settled frames-owing.ended (λ M 𝓤 𝓛. frames-owing.clauses 𝓛) (λ κ r. r)
 settled-frames-owing = record {
   Post = λ κ a r e. _;
   asks_nothing = λ M 𝓤 𝓛 mem run κ a g. refl;
@@ -761,7 +761,7 @@ settled-frames-owing = record {
 }
 
 pub settled-frames-read-row :
-    Settled frames-read-row.ended (λ M. frames-read-row.clauses {M = M}) (λ κ r. r)
+    Settled frames-read-row.ended (λ M 𝓤 𝓛. frames-read-row.clauses 𝓛) (λ κ r. r)
 settled-frames-read-row = record {
   Post = λ κ a r e. _;
   asks_nothing = λ M 𝓤 𝓛 mem run κ a g. refl;
@@ -775,7 +775,7 @@ settled-frames-read-row = record {
 }
 
 pub settled-frames-sync-ip :
-    Settled frames-sync-ip.ended (λ M. frames-sync-ip.clauses {M = M}) (λ κ r. r)
+    Settled frames-sync-ip.ended (λ M 𝓤 𝓛. frames-sync-ip.clauses 𝓛) (λ κ r. r)
 settled-frames-sync-ip = record {
   Post = λ κ a r e. _;
   asks_nothing = λ M 𝓤 𝓛 mem run κ a g. refl;
@@ -789,7 +789,7 @@ settled-frames-sync-ip = record {
 }
 
 pub settled-frames-too-few-words :
-    Settled frames-too-few-words.ended (λ M. frames-too-few-words.clauses {M = M}) (λ κ r. r)
+    Settled frames-too-few-words.ended (λ M 𝓤 𝓛. frames-too-few-words.clauses 𝓛) (λ κ r. r)
 settled-frames-too-few-words = record {
   Post = λ κ a r e. _;
   asks_nothing = λ M 𝓤 𝓛 mem run κ a g. refl;
@@ -803,7 +803,7 @@ settled-frames-too-few-words = record {
 }
 
 pub settled-frames-write-row :
-    Settled frames-write-row.ended (λ M. frames-write-row.clauses {M = M}) (λ κ r. r)
+    Settled frames-write-row.ended (λ M 𝓤 𝓛. frames-write-row.clauses 𝓛) (λ κ r. r)
 settled-frames-write-row = record {
   Post = λ κ a r e. _;
   asks_nothing = λ M 𝓤 𝓛 mem run κ a g. refl;
@@ -817,7 +817,7 @@ settled-frames-write-row = record {
 }
 
 pub settled-runs-cells-there :
-    Settled runs-cells-there.ended (λ M. runs-cells-there.clauses {M = M}) (λ κ r. r)
+    Settled runs-cells-there.ended (λ M 𝓤 𝓛. runs-cells-there.clauses 𝓛) (λ κ r. r)
 settled-runs-cells-there = record {
   Post = λ κ a r e. _;
   asks_nothing = λ M 𝓤 𝓛 mem run κ a g. refl;
@@ -831,7 +831,7 @@ settled-runs-cells-there = record {
 }
 
 pub settled-runs-clear-locals :
-    Settled runs-clear-locals.ended (λ M. runs-clear-locals.clauses {M = M}) (λ κ r. r)
+    Settled runs-clear-locals.ended (λ M 𝓤 𝓛. runs-clear-locals.clauses 𝓛) (λ κ r. r)
 settled-runs-clear-locals = record {
   Post = λ κ a r e. _;
   asks_nothing = λ M 𝓤 𝓛 mem run κ a g. refl;
@@ -845,7 +845,7 @@ settled-runs-clear-locals = record {
 }
 
 pub settled-runs-copy-down :
-    Settled runs-copy-down.ended (λ M. runs-copy-down.clauses {M = M}) (λ κ r. r)
+    Settled runs-copy-down.ended (λ M 𝓤 𝓛. runs-copy-down.clauses 𝓛) (λ κ r. r)
 settled-runs-copy-down = record {
   Post = λ κ a r e. _;
   asks_nothing = λ M 𝓤 𝓛 mem run κ a g. refl;
@@ -859,7 +859,7 @@ settled-runs-copy-down = record {
 }
 
 pub settled-runs-put-values :
-    Settled runs-put-values.ended (λ M. runs-put-values.clauses {M = M}) (λ κ r. r)
+    Settled runs-put-values.ended (λ M 𝓤 𝓛. runs-put-values.clauses 𝓛) (λ κ r. r)
 settled-runs-put-values = record {
   Post = λ κ a r e. _;
   asks_nothing = λ M 𝓤 𝓛 mem run κ a g. refl;
@@ -873,7 +873,7 @@ settled-runs-put-values = record {
 }
 
 pub settled-cells-grow-if-needed :
-    Settled cells-grow-if-needed.ended (λ M. cells-grow-if-needed.clauses {M = M}) (λ κ r. r)
+    Settled cells-grow-if-needed.ended (λ M 𝓤 𝓛. cells-grow-if-needed.clauses 𝓛) (λ κ r. r)
 settled-cells-grow-if-needed = record {
   Post = λ κ a r e. _;
   asks_nothing = λ M 𝓤 𝓛 mem run κ a g. refl;
@@ -887,7 +887,7 @@ settled-cells-grow-if-needed = record {
 }
 
 pub settled-cells-host-params :
-    Settled cells-host-params.ended (λ M. cells-host-params.clauses {M = M}) (λ κ r. beside r.ref_ptr r.now)
+    Settled cells-host-params.ended (λ M 𝓤 𝓛. cells-host-params.clauses 𝓛) (λ κ r. beside r.ref_ptr r.now)
 settled-cells-host-params = record {
   Post = λ κ a r e. _;
   asks_nothing = λ M 𝓤 𝓛 mem run κ a g. refl;
@@ -901,7 +901,7 @@ settled-cells-host-params = record {
 }
 
 pub settled-cells-host-results :
-    Settled cells-host-results.ended (λ M. cells-host-results.clauses {M = M}) (λ κ r. beside r.ref_ptr r.now)
+    Settled cells-host-results.ended (λ M 𝓤 𝓛. cells-host-results.clauses 𝓛) (λ κ r. beside r.ref_ptr r.now)
 settled-cells-host-results = record {
   Post = λ κ a r e. _;
   asks_nothing = λ M 𝓤 𝓛 mem run κ a g. refl;
@@ -915,7 +915,7 @@ settled-cells-host-results = record {
 }
 
 pub settled-cells-host-size :
-    Settled cells-host-size.ended (λ M. cells-host-size.clauses {M = M}) (λ κ r. r)
+    Settled cells-host-size.ended (λ M 𝓤 𝓛. cells-host-size.clauses 𝓛) (λ κ r. r)
 settled-cells-host-size = record {
   Post = λ κ a r e. _;
   asks_nothing = λ M 𝓤 𝓛 mem run κ a g. refl;
@@ -929,7 +929,7 @@ settled-cells-host-size = record {
 }
 
 pub settled-cells-is-bad-host-frame :
-    Settled cells-is-bad-host-frame.ended (λ M. cells-is-bad-host-frame.clauses {M = M}) (λ κ r. r)
+    Settled cells-is-bad-host-frame.ended (λ M 𝓤 𝓛. cells-is-bad-host-frame.clauses 𝓛) (λ κ r. r)
 settled-cells-is-bad-host-frame = record {
   Post = λ κ a r e. _;
   asks_nothing = λ M 𝓤 𝓛 mem run κ a g. refl;
@@ -943,7 +943,7 @@ settled-cells-is-bad-host-frame = record {
 }
 
 pub settled-cells-prepare-host-frame :
-    Settled cells-prepare-host-frame.ended (λ M. cells-prepare-host-frame.clauses {M = M}) (λ κ r. r)
+    Settled cells-prepare-host-frame.ended (λ M 𝓤 𝓛. cells-prepare-host-frame.clauses 𝓛) (λ κ r. r)
 settled-cells-prepare-host-frame = record {
   Post = λ κ a r e. _;
   asks_nothing = λ M 𝓤 𝓛 mem run κ a g. refl;
@@ -957,7 +957,7 @@ settled-cells-prepare-host-frame = record {
 }
 
 pub settled-cells-push :
-    Settled cells-push.ended (λ M. cells-push.clauses {M = M}) (λ κ r. r)
+    Settled cells-push.ended (λ M 𝓤 𝓛. cells-push.clauses 𝓛) (λ κ r. r)
 settled-cells-push = record {
   Post = λ κ a r e. _;
   asks_nothing = λ M 𝓤 𝓛 mem run κ a g. refl;
@@ -971,7 +971,7 @@ settled-cells-push = record {
 }
 
 pub settled-cells-replace :
-    Settled cells-replace.ended (λ M. cells-replace.clauses {M = M}) (λ κ r. r)
+    Settled cells-replace.ended (λ M 𝓤 𝓛. cells-replace.clauses 𝓛) (λ κ r. r)
 settled-cells-replace = record {
   Post = λ κ a r e. _;
   asks_nothing = λ M 𝓤 𝓛 mem run κ a g. refl;
@@ -985,7 +985,7 @@ settled-cells-replace = record {
 }
 
 pub settled-cells-return-prepare-host-frame :
-    Settled cells-return-prepare-host-frame.ended (λ M. cells-return-prepare-host-frame.clauses {M = M}) (λ κ r. r)
+    Settled cells-return-prepare-host-frame.ended (λ M 𝓤 𝓛. cells-return-prepare-host-frame.clauses 𝓛) (λ κ r. r)
 settled-cells-return-prepare-host-frame = record {
   Post = λ κ a r e. _;
   asks_nothing = λ M 𝓤 𝓛 mem run κ a g. refl;
@@ -999,7 +999,7 @@ settled-cells-return-prepare-host-frame = record {
 }
 
 pub settled-cells-set-cell :
-    Settled cells-set-cell.ended (λ M. cells-set-cell.clauses {M = M}) (λ κ r. r)
+    Settled cells-set-cell.ended (λ M 𝓤 𝓛. cells-set-cell.clauses 𝓛) (λ κ r. r)
 settled-cells-set-cell = record {
   Post = λ κ a r e. _;
   asks_nothing = λ M 𝓤 𝓛 mem run κ a g. refl;
@@ -1013,7 +1013,7 @@ settled-cells-set-cell = record {
 }
 
 pub settled-cells-store-results :
-    Settled cells-store-results.ended (λ M. cells-store-results.clauses {M = M}) (λ κ r. r)
+    Settled cells-store-results.ended (λ M 𝓤 𝓛. cells-store-results.clauses 𝓛) (λ κ r. r)
 settled-cells-store-results = record {
   Post = λ κ a r e. _;
   asks_nothing = λ M 𝓤 𝓛 mem run κ a g. refl;
@@ -1027,7 +1027,7 @@ settled-cells-store-results = record {
 }
 
 pub settled-record-is-lawful :
-    Settled record-is-lawful.ended (λ M. record-is-lawful.clauses {M = M}) (λ κ r. r)
+    Settled record-is-lawful.ended (λ M 𝓤 𝓛. record-is-lawful.clauses 𝓛) (λ κ r. r)
 settled-record-is-lawful = record {
   Post = λ κ a r e. _;
   asks_nothing = λ M 𝓤 𝓛 mem run κ a g. refl;
@@ -1041,7 +1041,7 @@ settled-record-is-lawful = record {
 }
 
 pub settled-record-keeps-row :
-    Settled record-keeps-row.ended (λ M. record-keeps-row.clauses {M = M}) (λ κ r. r)
+    Settled record-keeps-row.ended (λ M 𝓤 𝓛. record-keeps-row.clauses 𝓛) (λ κ r. r)
 settled-record-keeps-row = record {
   Post = λ κ a r e. _;
   asks_nothing = λ M 𝓤 𝓛 mem run κ a g. refl;
@@ -1055,7 +1055,7 @@ settled-record-keeps-row = record {
 }
 
 pub settled-record-read-fields :
-    Settled record-read-fields.ended (λ M. record-read-fields.clauses {M = M}) (λ κ r. r)
+    Settled record-read-fields.ended (λ M 𝓤 𝓛. record-read-fields.clauses 𝓛) (λ κ r. r)
 settled-record-read-fields = record {
   Post = λ κ a r e. _;
   asks_nothing = λ M 𝓤 𝓛 mem run κ a g. refl;
@@ -1069,7 +1069,7 @@ settled-record-read-fields = record {
 }
 
 pub settled-record-read-record :
-    Settled record-read-record.ended (λ M. record-read-record.clauses {M = M}) (λ κ r. r)
+    Settled record-read-record.ended (λ M 𝓤 𝓛. record-read-record.clauses 𝓛) (λ κ r. r)
 settled-record-read-record = record {
   Post = λ κ a r e. _;
   asks_nothing = λ M 𝓤 𝓛 mem run κ a g. refl;
@@ -1083,7 +1083,7 @@ settled-record-read-record = record {
 }
 
 pub settled-record-write-record :
-    Settled record-write-record.ended (λ M. record-write-record.clauses {M = M}) (λ κ r. r)
+    Settled record-write-record.ended (λ M 𝓤 𝓛. record-write-record.clauses 𝓛) (λ κ r. r)
 settled-record-write-record = record {
   Post = λ κ a r e. _;
   asks_nothing = λ M 𝓤 𝓛 mem run κ a g. refl;
@@ -1097,7 +1097,7 @@ settled-record-write-record = record {
 }
 
 pub settled-request-host-in :
-    Settled request-host-in.ended (λ M. request-host-in.clauses {M = M}) (λ κ r. r)
+    Settled request-host-in.ended (λ M 𝓤 𝓛. request-host-in.clauses 𝓛) (λ κ r. r)
 settled-request-host-in = record {
   Post = λ κ a r e. _;
   asks_nothing = λ M 𝓤 𝓛 mem run κ a g. refl;
@@ -1111,7 +1111,7 @@ settled-request-host-in = record {
 }
 
 pub settled-request-next-request :
-    Settled request-next-request.ended (λ M. request-next-request.clauses {M = M}) (λ κ r. r)
+    Settled request-next-request.ended (λ M 𝓤 𝓛. request-next-request.clauses 𝓛) (λ κ r. r)
 settled-request-next-request = record {
   Post = λ κ a r e. _;
   asks_nothing = λ M 𝓤 𝓛 mem run κ a g. refl;
@@ -1125,7 +1125,7 @@ settled-request-next-request = record {
 }
 
 pub settled-request-place-after :
-    Settled request-place-after.ended (λ M. request-place-after.clauses {M = M}) (λ κ r. r)
+    Settled request-place-after.ended (λ M 𝓤 𝓛. request-place-after.clauses 𝓛) (λ κ r. r)
 settled-request-place-after = record {
   Post = λ κ a r e. _;
   asks_nothing = λ M 𝓤 𝓛 mem run κ a g. refl;
@@ -1139,7 +1139,7 @@ settled-request-place-after = record {
 }
 
 pub settled-request-push-in :
-    Settled request-push-in.ended (λ M. request-push-in.clauses {M = M}) (λ κ r. r)
+    Settled request-push-in.ended (λ M 𝓤 𝓛. request-push-in.clauses 𝓛) (λ κ r. r)
 settled-request-push-in = record {
   Post = λ κ a r e. _;
   asks_nothing = λ M 𝓤 𝓛 mem run κ a g. refl;
@@ -1153,7 +1153,7 @@ settled-request-push-in = record {
 }
 
 pub settled-request-record-of :
-    Settled request-record-of.ended (λ M. request-record-of.clauses {M = M}) (λ κ r. r)
+    Settled request-record-of.ended (λ M 𝓤 𝓛. request-record-of.clauses 𝓛) (λ κ r. r)
 settled-request-record-of = record {
   Post = λ κ a r e. _;
   asks_nothing = λ M 𝓤 𝓛 mem run κ a g. refl;
@@ -1167,7 +1167,7 @@ settled-request-record-of = record {
 }
 
 pub settled-request-replace-in :
-    Settled request-replace-in.ended (λ M. request-replace-in.clauses {M = M}) (λ κ r. r)
+    Settled request-replace-in.ended (λ M 𝓤 𝓛. request-replace-in.clauses 𝓛) (λ κ r. r)
 settled-request-replace-in = record {
   Post = λ κ a r e. _;
   asks_nothing = λ M 𝓤 𝓛 mem run κ a g. refl;
@@ -1181,7 +1181,7 @@ settled-request-replace-in = record {
 }
 
 pub settled-request-request-of :
-    Settled request-request-of.ended (λ M. request-request-of.clauses {M = M}) (λ κ r. r)
+    Settled request-request-of.ended (λ M 𝓤 𝓛. request-request-of.clauses 𝓛) (λ κ r. r)
 settled-request-request-of = record {
   Post = λ κ a r e. _;
   asks_nothing = λ M 𝓤 𝓛 mem run κ a g. refl;
@@ -1195,7 +1195,7 @@ settled-request-request-of = record {
 }
 
 pub settled-request-return-host-in :
-    Settled request-return-host-in.ended (λ M. request-return-host-in.clauses {M = M}) (λ κ r. r)
+    Settled request-return-host-in.ended (λ M 𝓤 𝓛. request-return-host-in.clauses 𝓛) (λ κ r. r)
 settled-request-return-host-in = record {
   Post = λ κ a r e. _;
   asks_nothing = λ M 𝓤 𝓛 mem run κ a g. refl;
@@ -1209,7 +1209,7 @@ settled-request-return-host-in = record {
 }
 
 pub settled-request-write-request :
-    Settled request-write-request.ended (λ M. request-write-request.clauses {M = M}) (λ κ r. r)
+    Settled request-write-request.ended (λ M 𝓤 𝓛. request-write-request.clauses 𝓛) (λ κ r. r)
 settled-request-write-request = record {
   Post = λ κ a r e. _;
   asks_nothing = λ M 𝓤 𝓛 mem run κ a g. refl;
@@ -1223,7 +1223,7 @@ settled-request-write-request = record {
 }
 
 pub settled-reader-advance :
-    Settled reader-advance.ended (λ M. reader-advance.clauses {M = M}) (λ κ r. r)
+    Settled reader-advance.ended (λ M 𝓤 𝓛. reader-advance.clauses 𝓛) (λ κ r. r)
 settled-reader-advance = record {
   Post = λ κ a r e. _;
   asks_nothing = λ M 𝓤 𝓛 mem run κ a g. refl;
@@ -1237,7 +1237,7 @@ settled-reader-advance = record {
 }
 
 pub settled-reader-hand-out :
-    Settled reader-hand-out.ended (λ M. reader-hand-out.clauses {M = M}) (λ κ r. r)
+    Settled reader-hand-out.ended (λ M 𝓤 𝓛. reader-hand-out.clauses 𝓛) (λ κ r. r)
 settled-reader-hand-out = record {
   Post = λ κ a r e. _;
   asks_nothing = λ M 𝓤 𝓛 mem run κ a g. refl;
@@ -1251,7 +1251,7 @@ settled-reader-hand-out = record {
 }
 
 pub settled-reader-next-two :
-    Settled reader-next-two.ended (λ M. reader-next-two.clauses {M = M}) (λ κ r. r)
+    Settled reader-next-two.ended (λ M 𝓤 𝓛. reader-next-two.clauses 𝓛) (λ κ r. r)
 settled-reader-next-two = record {
   Post = λ κ a r e. _;
   asks_nothing = λ M 𝓤 𝓛 mem run κ a g. refl;
@@ -1265,7 +1265,7 @@ settled-reader-next-two = record {
 }
 
 pub settled-reader-reader-at :
-    Settled reader-reader-at.ended (λ M. reader-reader-at.clauses {M = M}) (λ κ r. r)
+    Settled reader-reader-at.ended (λ M 𝓤 𝓛. reader-reader-at.clauses 𝓛) (λ κ r. r)
 settled-reader-reader-at = record {
   Post = λ κ a r e. _;
   asks_nothing = λ M 𝓤 𝓛 mem run κ a g. refl;
@@ -1279,7 +1279,7 @@ settled-reader-reader-at = record {
 }
 
 pub settled-reader-take-request :
-    Settled reader-take-request.ended (λ M. reader-take-request.clauses {M = M}) (λ κ r. r)
+    Settled reader-take-request.ended (λ M 𝓤 𝓛. reader-take-request.clauses 𝓛) (λ κ r. r)
 settled-reader-take-request = record {
   Post = λ κ a r e. _;
   asks_nothing = λ M 𝓤 𝓛 mem run κ a g. refl;
@@ -1293,7 +1293,7 @@ settled-reader-take-request = record {
 }
 
 pub settled-stack-answer-number :
-    Settled stack-answer-number.ended (λ M. stack-answer-number.clauses {M = M}) (λ κ r. r)
+    Settled stack-answer-number.ended (λ M 𝓤 𝓛. stack-answer-number.clauses 𝓛) (λ κ r. r)
 settled-stack-answer-number = record {
   Post = λ κ a r e. _;
   asks_nothing = λ M 𝓤 𝓛 mem run κ a g. refl;
@@ -1307,7 +1307,7 @@ settled-stack-answer-number = record {
 }
 
 pub settled-stack-answer-offset :
-    Settled stack-answer-offset.ended (λ M. stack-answer-offset.clauses {M = M}) (λ κ r. r)
+    Settled stack-answer-offset.ended (λ M 𝓤 𝓛. stack-answer-offset.clauses 𝓛) (λ κ r. r)
 settled-stack-answer-offset = record {
   Post = λ κ a r e. _;
   asks_nothing = λ M 𝓤 𝓛 mem run κ a g. refl;
@@ -1321,7 +1321,7 @@ settled-stack-answer-offset = record {
 }
 
 pub settled-stack-at-host :
-    Settled stack-at-host.ended (λ M. stack-at-host.clauses {M = M}) (λ κ r. r)
+    Settled stack-at-host.ended (λ M 𝓤 𝓛. stack-at-host.clauses 𝓛) (λ κ r. r)
 settled-stack-at-host = record {
   Post = λ κ a r e. _;
   asks_nothing = λ M 𝓤 𝓛 mem run κ a g. refl;
@@ -1335,7 +1335,7 @@ settled-stack-at-host = record {
 }
 
 pub settled-stack-at-offset :
-    Settled stack-at-offset.ended (λ M. stack-at-offset.clauses {M = M}) (λ κ r. r)
+    Settled stack-at-offset.ended (λ M 𝓤 𝓛. stack-at-offset.clauses 𝓛) (λ κ r. r)
 settled-stack-at-offset = record {
   Post = λ κ a r e. _;
   asks_nothing = λ M 𝓤 𝓛 mem run κ a g. refl;
@@ -1349,7 +1349,7 @@ settled-stack-at-offset = record {
 }
 
 pub settled-stack-from-top :
-    Settled stack-from-top.ended (λ M. stack-from-top.clauses {M = M}) (λ κ r. r)
+    Settled stack-from-top.ended (λ M 𝓤 𝓛. stack-from-top.clauses 𝓛) (λ κ r. r)
 settled-stack-from-top = record {
   Post = λ κ a r e. _;
   asks_nothing = λ M 𝓤 𝓛 mem run κ a g. refl;
@@ -1363,7 +1363,7 @@ settled-stack-from-top = record {
 }
 
 pub settled-stack-is-beyond :
-    Settled stack-is-beyond.ended (λ M. stack-is-beyond.clauses {M = M}) (λ κ r. r)
+    Settled stack-is-beyond.ended (λ M 𝓤 𝓛. stack-is-beyond.clauses 𝓛) (λ κ r. r)
 settled-stack-is-beyond = record {
   Post = λ κ a r e. _;
   asks_nothing = λ M 𝓤 𝓛 mem run κ a g. refl;
@@ -1377,7 +1377,7 @@ settled-stack-is-beyond = record {
 }
 
 pub settled-stack-is-broken-next :
-    Settled stack-is-broken-next.ended (λ M. stack-is-broken-next.clauses {M = M}) (λ κ r. r)
+    Settled stack-is-broken-next.ended (λ M 𝓤 𝓛. stack-is-broken-next.clauses 𝓛) (λ κ r. r)
 settled-stack-is-broken-next = record {
   Post = λ κ a r e. _;
   asks_nothing = λ M 𝓤 𝓛 mem run κ a g. refl;
@@ -1391,7 +1391,7 @@ settled-stack-is-broken-next = record {
 }
 
 pub settled-stack-is-broken-state :
-    Settled stack-is-broken-state.ended (λ M. stack-is-broken-state.clauses {M = M}) (λ κ r. r)
+    Settled stack-is-broken-state.ended (λ M 𝓤 𝓛. stack-is-broken-state.clauses 𝓛) (λ κ r. r)
 settled-stack-is-broken-state = record {
   Post = λ κ a r e. _;
   asks_nothing = λ M 𝓤 𝓛 mem run κ a g. refl;
@@ -1405,7 +1405,7 @@ settled-stack-is-broken-state = record {
 }
 
 pub settled-stack-is-broken-top :
-    Settled stack-is-broken-top.ended (λ M. stack-is-broken-top.clauses {M = M}) (λ κ r. r)
+    Settled stack-is-broken-top.ended (λ M 𝓤 𝓛. stack-is-broken-top.clauses 𝓛) (λ κ r. r)
 settled-stack-is-broken-top = record {
   Post = λ κ a r e. _;
   asks_nothing = λ M 𝓤 𝓛 mem run κ a g. refl;
@@ -1419,7 +1419,7 @@ settled-stack-is-broken-top = record {
 }
 
 pub settled-stack-is-stray-ip :
-    Settled stack-is-stray-ip.ended (λ M. stack-is-stray-ip.clauses {M = M}) (λ κ r. r)
+    Settled stack-is-stray-ip.ended (λ M 𝓤 𝓛. stack-is-stray-ip.clauses 𝓛) (λ κ r. r)
 settled-stack-is-stray-ip = record {
   Post = λ κ a r e. _;
   asks_nothing = λ M 𝓤 𝓛 mem run κ a g. refl;
@@ -1433,7 +1433,7 @@ settled-stack-is-stray-ip = record {
 }
 
 pub settled-stack-judge-growth :
-    Settled stack-judge-growth.ended (λ M. stack-judge-growth.clauses {M = M}) (λ κ r. r)
+    Settled stack-judge-growth.ended (λ M 𝓤 𝓛. stack-judge-growth.clauses 𝓛) (λ κ r. r)
 settled-stack-judge-growth = record {
   Post = λ κ a r e. _;
   asks_nothing = λ M 𝓤 𝓛 mem run κ a g. refl;
@@ -1447,7 +1447,7 @@ settled-stack-judge-growth = record {
 }
 
 pub settled-stack-judge-reset :
-    Settled stack-judge-reset.ended (λ M. stack-judge-reset.clauses {M = M}) (λ κ r. r)
+    Settled stack-judge-reset.ended (λ M 𝓤 𝓛. stack-judge-reset.clauses 𝓛) (λ κ r. r)
 settled-stack-judge-reset = record {
   Post = λ κ a r e. _;
   asks_nothing = λ M 𝓤 𝓛 mem run κ a g. refl;
@@ -1461,7 +1461,7 @@ settled-stack-judge-reset = record {
 }
 
 pub settled-stack-judge-restore :
-    Settled stack-judge-restore.ended (λ M. stack-judge-restore.clauses {M = M}) (λ κ r. r)
+    Settled stack-judge-restore.ended (λ M 𝓤 𝓛. stack-judge-restore.clauses 𝓛) (λ κ r. r)
 settled-stack-judge-restore = record {
   Post = λ κ a r e. _;
   asks_nothing = λ M 𝓤 𝓛 mem run κ a g. refl;
@@ -1475,7 +1475,7 @@ settled-stack-judge-restore = record {
 }
 
 pub settled-stack-judge-set :
-    Settled stack-judge-set.ended (λ M. stack-judge-set.clauses {M = M}) (λ κ r. r)
+    Settled stack-judge-set.ended (λ M 𝓤 𝓛. stack-judge-set.clauses 𝓛) (λ κ r. r)
 settled-stack-judge-set = record {
   Post = λ κ a r e. _;
   asks_nothing = λ M 𝓤 𝓛 mem run κ a g. refl;
@@ -1489,7 +1489,7 @@ settled-stack-judge-set = record {
 }
 
 pub settled-stack-judge-sync :
-    Settled stack-judge-sync.ended (λ M. stack-judge-sync.clauses {M = M}) (λ κ r. r)
+    Settled stack-judge-sync.ended (λ M 𝓤 𝓛. stack-judge-sync.clauses 𝓛) (λ κ r. r)
 settled-stack-judge-sync = record {
   Post = λ κ a r e. _;
   asks_nothing = λ M 𝓤 𝓛 mem run κ a g. refl;
@@ -1503,7 +1503,7 @@ settled-stack-judge-sync = record {
 }
 
 pub settled-stack-judge-sync-regs :
-    Settled stack-judge-sync-regs.ended (λ M. stack-judge-sync-regs.clauses {M = M}) (λ κ r. r)
+    Settled stack-judge-sync-regs.ended (λ M 𝓤 𝓛. stack-judge-sync-regs.clauses 𝓛) (λ κ r. r)
 settled-stack-judge-sync-regs = record {
   Post = λ κ a r e. _;
   asks_nothing = λ M 𝓤 𝓛 mem run κ a g. refl;
@@ -1517,7 +1517,7 @@ settled-stack-judge-sync-regs = record {
 }
 
 pub settled-stack-moved-state :
-    Settled stack-moved-state.ended (λ M. stack-moved-state.clauses {M = M}) (λ κ r. r)
+    Settled stack-moved-state.ended (λ M 𝓤 𝓛. stack-moved-state.clauses 𝓛) (λ κ r. r)
 settled-stack-moved-state = record {
   Post = λ κ a r e. _;
   asks_nothing = λ M 𝓤 𝓛 mem run κ a g. refl;
@@ -1531,7 +1531,7 @@ settled-stack-moved-state = record {
 }
 
 pub settled-stack-no-host :
-    Settled stack-no-host.ended (λ M. stack-no-host.clauses {M = M}) (λ κ r. r)
+    Settled stack-no-host.ended (λ M 𝓤 𝓛. stack-no-host.clauses 𝓛) (λ κ r. r)
 settled-stack-no-host = record {
   Post = λ κ a r e. _;
   asks_nothing = λ M 𝓤 𝓛 mem run κ a g. refl;
@@ -1545,7 +1545,7 @@ settled-stack-no-host = record {
 }
 
 pub settled-stack-open :
-    Settled stack-open.ended (λ M. stack-open.clauses {M = M}) (λ κ r. r)
+    Settled stack-open.ended (λ M 𝓤 𝓛. stack-open.clauses 𝓛) (λ κ r. r)
 settled-stack-open = record {
   Post = λ κ a r e. _;
   asks_nothing = λ M 𝓤 𝓛 mem run κ a g. refl;
@@ -1559,7 +1559,7 @@ settled-stack-open = record {
 }
 
 pub settled-stack-refusal-number :
-    Settled stack-refusal-number.ended (λ M. stack-refusal-number.clauses {M = M}) (λ κ r. r)
+    Settled stack-refusal-number.ended (λ M 𝓤 𝓛. stack-refusal-number.clauses 𝓛) (λ κ r. r)
 settled-stack-refusal-number = record {
   Post = λ κ a r e. _;
   asks_nothing = λ M 𝓤 𝓛 mem run κ a g. refl;
@@ -1573,7 +1573,7 @@ settled-stack-refusal-number = record {
 }
 
 pub settled-stack-refused :
-    Settled stack-refused.ended (λ M. stack-refused.clauses {M = M}) (λ κ r. r)
+    Settled stack-refused.ended (λ M 𝓤 𝓛. stack-refused.clauses 𝓛) (λ κ r. r)
 settled-stack-refused = record {
   Post = λ κ a r e. _;
   asks_nothing = λ M 𝓤 𝓛 mem run κ a g. refl;
@@ -1587,7 +1587,7 @@ settled-stack-refused = record {
 }
 
 pub settled-stack-reset :
-    Settled stack-reset.ended (λ M. stack-reset.clauses {M = M}) (λ κ r. r)
+    Settled stack-reset.ended (λ M 𝓤 𝓛. stack-reset.clauses 𝓛) (λ κ r. r)
 settled-stack-reset = record {
   Post = λ κ a r e. _;
   asks_nothing = λ M 𝓤 𝓛 mem run κ a g. refl;
@@ -1601,7 +1601,7 @@ settled-stack-reset = record {
 }
 
 pub settled-stack-restore-frame :
-    Settled stack-restore-frame.ended (λ M. stack-restore-frame.clauses {M = M}) (λ κ r. r)
+    Settled stack-restore-frame.ended (λ M 𝓤 𝓛. stack-restore-frame.clauses 𝓛) (λ κ r. r)
 settled-stack-restore-frame = record {
   Post = λ κ a r e. _;
   asks_nothing = λ M 𝓤 𝓛 mem run κ a g. refl;
@@ -1615,7 +1615,7 @@ settled-stack-restore-frame = record {
 }
 
 pub settled-stack-set :
-    Settled stack_set.ended (λ M. stack_set.clauses {M = M}) (λ κ r. r)
+    Settled stack_set.ended (λ M 𝓤 𝓛. stack_set.clauses 𝓛) (λ κ r. r)
 settled-stack-set = record {
   Post = λ κ a r e. _;
   asks_nothing = λ M 𝓤 𝓛 mem run κ a g. refl;
@@ -1629,7 +1629,7 @@ settled-stack-set = record {
 }
 
 pub settled-stack-step-reset :
-    Settled stack-step-reset.ended (λ M. stack-step-reset.clauses {M = M}) (λ κ r. r)
+    Settled stack-step-reset.ended (λ M 𝓤 𝓛. stack-step-reset.clauses 𝓛) (λ κ r. r)
 settled-stack-step-reset = record {
   Post = λ κ a r e. _;
   asks_nothing = λ M 𝓤 𝓛 mem run κ a g. refl;
@@ -1643,7 +1643,7 @@ settled-stack-step-reset = record {
 }
 
 pub settled-stack-step-restore :
-    Settled stack-step-restore.ended (λ M. stack-step-restore.clauses {M = M}) (λ κ r. r)
+    Settled stack-step-restore.ended (λ M 𝓤 𝓛. stack-step-restore.clauses 𝓛) (λ κ r. r)
 settled-stack-step-restore = record {
   Post = λ κ a r e. _;
   asks_nothing = λ M 𝓤 𝓛 mem run κ a g. refl;
@@ -1657,7 +1657,7 @@ settled-stack-step-restore = record {
 }
 
 pub settled-stack-step-return :
-    Settled stack-step-return.ended (λ M. stack-step-return.clauses {M = M}) (λ κ r. r)
+    Settled stack-step-return.ended (λ M 𝓤 𝓛. stack-step-return.clauses 𝓛) (λ κ r. r)
 settled-stack-step-return = record {
   Post = λ κ a r e. _;
   asks_nothing = λ M 𝓤 𝓛 mem run κ a g. refl;
@@ -1671,7 +1671,7 @@ settled-stack-step-return = record {
 }
 
 pub settled-stack-step-set :
-    Settled stack-step-set.ended (λ M. stack-step-set.clauses {M = M}) (λ κ r. r)
+    Settled stack-step-set.ended (λ M 𝓤 𝓛. stack-step-set.clauses 𝓛) (λ κ r. r)
 settled-stack-step-set = record {
   Post = λ κ a r e. _;
   asks_nothing = λ M 𝓤 𝓛 mem run κ a g. refl;
@@ -1685,7 +1685,7 @@ settled-stack-step-set = record {
 }
 
 pub settled-stack-step-sync :
-    Settled stack-step-sync.ended (λ M. stack-step-sync.clauses {M = M}) (λ κ r. r)
+    Settled stack-step-sync.ended (λ M 𝓤 𝓛. stack-step-sync.clauses 𝓛) (λ κ r. r)
 settled-stack-step-sync = record {
   Post = λ κ a r e. _;
   asks_nothing = λ M 𝓤 𝓛 mem run κ a g. refl;
@@ -1699,7 +1699,7 @@ settled-stack-step-sync = record {
 }
 
 pub settled-stack-store-ip :
-    Settled stack-store-ip.ended (λ M. stack-store-ip.clauses {M = M}) (λ κ r. r)
+    Settled stack-store-ip.ended (λ M 𝓤 𝓛. stack-store-ip.clauses 𝓛) (λ κ r. r)
 settled-stack-store-ip = record {
   Post = λ κ a r e. _;
   asks_nothing = λ M 𝓤 𝓛 mem run κ a g. refl;
@@ -1713,7 +1713,7 @@ settled-stack-store-ip = record {
 }
 
 pub settled-stack-sync-ip :
-    Settled stack-sync-ip.ended (λ M. stack-sync-ip.clauses {M = M}) (λ κ r. r)
+    Settled stack-sync-ip.ended (λ M 𝓤 𝓛. stack-sync-ip.clauses 𝓛) (λ κ r. r)
 settled-stack-sync-ip = record {
   Post = λ κ a r e. _;
   asks_nothing = λ M 𝓤 𝓛 mem run κ a g. refl;
@@ -1727,7 +1727,7 @@ settled-stack-sync-ip = record {
 }
 
 pub settled-stack-sync-regs :
-    Settled stack-sync-regs.ended (λ M. stack-sync-regs.clauses {M = M}) (λ κ r. r)
+    Settled stack-sync-regs.ended (λ M 𝓤 𝓛. stack-sync-regs.clauses 𝓛) (λ κ r. r)
 settled-stack-sync-regs = record {
   Post = λ κ a r e. _;
   asks_nothing = λ M 𝓤 𝓛 mem run κ a g. refl;
@@ -1741,7 +1741,7 @@ settled-stack-sync-regs = record {
 }
 
 pub settled-stack-top-start :
-    Settled stack-top-start.ended (λ M. stack-top-start.clauses {M = M}) (λ κ r. r)
+    Settled stack-top-start.ended (λ M 𝓤 𝓛. stack-top-start.clauses 𝓛) (λ κ r. r)
 settled-stack-top-start = record {
   Post = λ κ a r e. _;
   asks_nothing = λ M 𝓤 𝓛 mem run κ a g. refl;
@@ -1755,7 +1755,7 @@ settled-stack-top-start = record {
 }
 
 pub settled-stack-calls-are-bad-counts :
-    Settled stack-calls-are-bad-counts.ended (λ M. stack-calls-are-bad-counts.clauses {M = M}) (λ κ r. r)
+    Settled stack-calls-are-bad-counts.ended (λ M 𝓤 𝓛. stack-calls-are-bad-counts.clauses 𝓛) (λ κ r. r)
 settled-stack-calls-are-bad-counts = record {
   Post = λ κ a r e. _;
   asks_nothing = λ M 𝓤 𝓛 mem run κ a g. refl;
@@ -1769,7 +1769,7 @@ settled-stack-calls-are-bad-counts = record {
 }
 
 pub settled-stack-calls-judge-pop :
-    Settled stack-calls-judge-pop.ended (λ M. stack-calls-judge-pop.clauses {M = M}) (λ κ r. r)
+    Settled stack-calls-judge-pop.ended (λ M 𝓤 𝓛. stack-calls-judge-pop.clauses 𝓛) (λ κ r. r)
 settled-stack-calls-judge-pop = record {
   Post = λ κ a r e. _;
   asks_nothing = λ M 𝓤 𝓛 mem run κ a g. refl;
@@ -1783,7 +1783,7 @@ settled-stack-calls-judge-pop = record {
 }
 
 pub settled-stack-calls-judge-push :
-    Settled stack-calls-judge-push.ended (λ M. stack-calls-judge-push.clauses {M = M}) (λ κ r. r)
+    Settled stack-calls-judge-push.ended (λ M 𝓤 𝓛. stack-calls-judge-push.clauses 𝓛) (λ κ r. r)
 settled-stack-calls-judge-push = record {
   Post = λ κ a r e. _;
   asks_nothing = λ M 𝓤 𝓛 mem run κ a g. refl;
@@ -1797,7 +1797,7 @@ settled-stack-calls-judge-push = record {
 }
 
 pub settled-stack-calls-judge-replace :
-    Settled stack-calls-judge-replace.ended (λ M. stack-calls-judge-replace.clauses {M = M}) (λ κ r. r)
+    Settled stack-calls-judge-replace.ended (λ M 𝓤 𝓛. stack-calls-judge-replace.clauses 𝓛) (λ κ r. r)
 settled-stack-calls-judge-replace = record {
   Post = λ κ a r e. _;
   asks_nothing = λ M 𝓤 𝓛 mem run κ a g. refl;
@@ -1811,7 +1811,7 @@ settled-stack-calls-judge-replace = record {
 }
 
 pub settled-stack-calls-pop-frame :
-    Settled stack-calls-pop-frame.ended (λ M. stack-calls-pop-frame.clauses {M = M}) (λ κ r. r)
+    Settled stack-calls-pop-frame.ended (λ M 𝓤 𝓛. stack-calls-pop-frame.clauses 𝓛) (λ κ r. r)
 settled-stack-calls-pop-frame = record {
   Post = λ κ a r e. _;
   asks_nothing = λ M 𝓤 𝓛 mem run κ a g. refl;
@@ -1825,7 +1825,7 @@ settled-stack-calls-pop-frame = record {
 }
 
 pub settled-stack-calls-push-frame :
-    Settled stack-calls-push-frame.ended (λ M. stack-calls-push-frame.clauses {M = M}) (λ κ r. r)
+    Settled stack-calls-push-frame.ended (λ M 𝓤 𝓛. stack-calls-push-frame.clauses 𝓛) (λ κ r. r)
 settled-stack-calls-push-frame = record {
   Post = λ κ a r e. _;
   asks_nothing = λ M 𝓤 𝓛 mem run κ a g. refl;
@@ -1839,7 +1839,7 @@ settled-stack-calls-push-frame = record {
 }
 
 pub settled-stack-calls-replace-frame :
-    Settled stack-calls-replace-frame.ended (λ M. stack-calls-replace-frame.clauses {M = M}) (λ κ r. r)
+    Settled stack-calls-replace-frame.ended (λ M 𝓤 𝓛. stack-calls-replace-frame.clauses 𝓛) (λ κ r. r)
 settled-stack-calls-replace-frame = record {
   Post = λ κ a r e. _;
   asks_nothing = λ M 𝓤 𝓛 mem run κ a g. refl;
@@ -1853,7 +1853,7 @@ settled-stack-calls-replace-frame = record {
 }
 
 pub settled-stack-calls-step-pop :
-    Settled stack-calls-step-pop.ended (λ M. stack-calls-step-pop.clauses {M = M}) (λ κ r. r)
+    Settled stack-calls-step-pop.ended (λ M 𝓤 𝓛. stack-calls-step-pop.clauses 𝓛) (λ κ r. r)
 settled-stack-calls-step-pop = record {
   Post = λ κ a r e. _;
   asks_nothing = λ M 𝓤 𝓛 mem run κ a g. refl;
@@ -1867,7 +1867,7 @@ settled-stack-calls-step-pop = record {
 }
 
 pub settled-stack-calls-step-push :
-    Settled stack-calls-step-push.ended (λ M. stack-calls-step-push.clauses {M = M}) (λ κ r. r)
+    Settled stack-calls-step-push.ended (λ M 𝓤 𝓛. stack-calls-step-push.clauses 𝓛) (λ κ r. r)
 settled-stack-calls-step-push = record {
   Post = λ κ a r e. _;
   asks_nothing = λ M 𝓤 𝓛 mem run κ a g. refl;
@@ -1881,7 +1881,7 @@ settled-stack-calls-step-push = record {
 }
 
 pub settled-stack-calls-step-replace :
-    Settled stack-calls-step-replace.ended (λ M. stack-calls-step-replace.clauses {M = M}) (λ κ r. r)
+    Settled stack-calls-step-replace.ended (λ M 𝓤 𝓛. stack-calls-step-replace.clauses 𝓛) (λ κ r. r)
 settled-stack-calls-step-replace = record {
   Post = λ κ a r e. _;
   asks_nothing = λ M 𝓤 𝓛 mem run κ a g. refl;
@@ -1895,7 +1895,7 @@ settled-stack-calls-step-replace = record {
 }
 
 pub settled-stack-hosts-call-host :
-    Settled stack-hosts-call-host.ended (λ M. stack-hosts-call-host.clauses {M = M}) (λ κ r. r)
+    Settled stack-hosts-call-host.ended (λ M 𝓤 𝓛. stack-hosts-call-host.clauses 𝓛) (λ κ r. r)
 settled-stack-hosts-call-host = record {
   Post = λ κ a r e. _;
   asks_nothing = λ M 𝓤 𝓛 mem run κ a g. refl;
@@ -1909,7 +1909,7 @@ settled-stack-hosts-call-host = record {
 }
 
 pub settled-stack-hosts-host-inout :
-    Settled stack-hosts-host-inout.ended (λ M. stack-hosts-host-inout.clauses {M = M}) (λ κ r. r)
+    Settled stack-hosts-host-inout.ended (λ M 𝓤 𝓛. stack-hosts-host-inout.clauses 𝓛) (λ κ r. r)
 settled-stack-hosts-host-inout = record {
   Post = λ κ a r e. _;
   asks_nothing = λ M 𝓤 𝓛 mem run κ a g. refl;
@@ -1923,7 +1923,7 @@ settled-stack-hosts-host-inout = record {
 }
 
 pub settled-stack-hosts-host-params :
-    Settled stack-hosts-host-params.ended (λ M. stack-hosts-host-params.clauses {M = M}) (λ κ r. beside r.ref_ptr r.now)
+    Settled stack-hosts-host-params.ended (λ M 𝓤 𝓛. stack-hosts-host-params.clauses 𝓛) (λ κ r. beside r.ref_ptr r.now)
 settled-stack-hosts-host-params = record {
   Post = λ κ a r e. _;
   asks_nothing = λ M 𝓤 𝓛 mem run κ a g. refl;
@@ -1937,7 +1937,7 @@ settled-stack-hosts-host-params = record {
 }
 
 pub settled-stack-hosts-host-results :
-    Settled stack-hosts-host-results.ended (λ M. stack-hosts-host-results.clauses {M = M}) (λ κ r. beside r.ref_ptr r.now)
+    Settled stack-hosts-host-results.ended (λ M 𝓤 𝓛. stack-hosts-host-results.clauses 𝓛) (λ κ r. beside r.ref_ptr r.now)
 settled-stack-hosts-host-results = record {
   Post = λ κ a r e. _;
   asks_nothing = λ M 𝓤 𝓛 mem run κ a g. refl;
@@ -1951,7 +1951,7 @@ settled-stack-hosts-host-results = record {
 }
 
 pub settled-stack-hosts-judge-host :
-    Settled stack-hosts-judge-host.ended (λ M. stack-hosts-judge-host.clauses {M = M}) (λ κ r. r)
+    Settled stack-hosts-judge-host.ended (λ M 𝓤 𝓛. stack-hosts-judge-host.clauses 𝓛) (λ κ r. r)
 settled-stack-hosts-judge-host = record {
   Post = λ κ a r e. _;
   asks_nothing = λ M 𝓤 𝓛 mem run κ a g. refl;
@@ -1965,7 +1965,7 @@ settled-stack-hosts-judge-host = record {
 }
 
 pub settled-stack-hosts-judge-host-part :
-    Settled stack-hosts-judge-host-part.ended (λ M. stack-hosts-judge-host-part.clauses {M = M}) (λ κ r. r)
+    Settled stack-hosts-judge-host-part.ended (λ M 𝓤 𝓛. stack-hosts-judge-host-part.clauses 𝓛) (λ κ r. r)
 settled-stack-hosts-judge-host-part = record {
   Post = λ κ a r e. _;
   asks_nothing = λ M 𝓤 𝓛 mem run κ a g. refl;
@@ -1979,7 +1979,7 @@ settled-stack-hosts-judge-host-part = record {
 }
 
 pub settled-stack-hosts-judge-return-host :
-    Settled stack-hosts-judge-return-host.ended (λ M. stack-hosts-judge-return-host.clauses {M = M}) (λ κ r. r)
+    Settled stack-hosts-judge-return-host.ended (λ M 𝓤 𝓛. stack-hosts-judge-return-host.clauses 𝓛) (λ κ r. r)
 settled-stack-hosts-judge-return-host = record {
   Post = λ κ a r e. _;
   asks_nothing = λ M 𝓤 𝓛 mem run κ a g. refl;
@@ -1993,7 +1993,7 @@ settled-stack-hosts-judge-return-host = record {
 }
 
 pub settled-stack-hosts-prepare-host-frame :
-    Settled stack-hosts-prepare-host-frame.ended (λ M. stack-hosts-prepare-host-frame.clauses {M = M}) (λ κ r. r)
+    Settled stack-hosts-prepare-host-frame.ended (λ M 𝓤 𝓛. stack-hosts-prepare-host-frame.clauses 𝓛) (λ κ r. r)
 settled-stack-hosts-prepare-host-frame = record {
   Post = λ κ a r e. _;
   asks_nothing = λ M 𝓤 𝓛 mem run κ a g. refl;
@@ -2007,7 +2007,7 @@ settled-stack-hosts-prepare-host-frame = record {
 }
 
 pub settled-stack-hosts-return-prepare-host-frame :
-    Settled stack-hosts-return-prepare-host-frame.ended (λ M. stack-hosts-return-prepare-host-frame.clauses {M = M}) (λ κ r. r)
+    Settled stack-hosts-return-prepare-host-frame.ended (λ M 𝓤 𝓛. stack-hosts-return-prepare-host-frame.clauses 𝓛) (λ κ r. r)
 settled-stack-hosts-return-prepare-host-frame = record {
   Post = λ κ a r e. _;
   asks_nothing = λ M 𝓤 𝓛 mem run κ a g. refl;
@@ -2021,7 +2021,7 @@ settled-stack-hosts-return-prepare-host-frame = record {
 }
 
 pub settled-stack-hosts-step-host :
-    Settled stack-hosts-step-host.ended (λ M. stack-hosts-step-host.clauses {M = M}) (λ κ r. r)
+    Settled stack-hosts-step-host.ended (λ M 𝓤 𝓛. stack-hosts-step-host.clauses 𝓛) (λ κ r. r)
 settled-stack-hosts-step-host = record {
   Post = λ κ a r e. _;
   asks_nothing = λ M 𝓤 𝓛 mem run κ a g. refl;
@@ -2035,7 +2035,7 @@ settled-stack-hosts-step-host = record {
 }
 
 pub settled-stack-hosts-step-return-host :
-    Settled stack-hosts-step-return-host.ended (λ M. stack-hosts-step-return-host.clauses {M = M}) (λ κ r. r)
+    Settled stack-hosts-step-return-host.ended (λ M 𝓤 𝓛. stack-hosts-step-return-host.clauses 𝓛) (λ κ r. r)
 settled-stack-hosts-step-return-host = record {
   Post = λ κ a r e. _;
   asks_nothing = λ M 𝓤 𝓛 mem run κ a g. refl;
@@ -2049,7 +2049,7 @@ settled-stack-hosts-step-return-host = record {
 }
 
 pub settled-lines-write-line :
-    Settled lines-write-line.ended (λ M. lines-write-line.clauses {M = M}) (λ κ r. r)
+    Settled lines-write-line.ended (λ M 𝓤 𝓛. lines-write-line.clauses 𝓛) (λ κ r. r)
 settled-lines-write-line = record {
   Post = λ κ a r e. _;
   asks_nothing = λ M 𝓤 𝓛 mem run κ a g. refl;
@@ -2063,7 +2063,7 @@ settled-lines-write-line = record {
 }
 
 pub settled-lines-write-spent :
-    Settled lines-write-spent.ended (λ M. lines-write-spent.clauses {M = M}) (λ κ r. r)
+    Settled lines-write-spent.ended (λ M 𝓤 𝓛. lines-write-spent.clauses 𝓛) (λ κ r. r)
 settled-lines-write-spent = record {
   Post = λ κ a r e. _;
   asks_nothing = λ M 𝓤 𝓛 mem run κ a g. refl;
@@ -2077,7 +2077,7 @@ settled-lines-write-spent = record {
 }
 
 pub settled-lines-write-stopped :
-    Settled lines-write-stopped.ended (λ M. lines-write-stopped.clauses {M = M}) (λ κ r. r)
+    Settled lines-write-stopped.ended (λ M 𝓤 𝓛. lines-write-stopped.clauses 𝓛) (λ κ r. r)
 settled-lines-write-stopped = record {
   Post = λ κ a r e. _;
   asks_nothing = λ M 𝓤 𝓛 mem run κ a g. refl;
@@ -2091,7 +2091,7 @@ settled-lines-write-stopped = record {
 }
 
 pub settled-ask-ask :
-    Settled ask-ask.ended (λ M. ask-ask.clauses {M = M}) (λ κ r. r)
+    Settled ask-ask.ended (λ M 𝓤 𝓛. ask-ask.clauses 𝓛) (λ κ r. r)
 settled-ask-ask = record {
   Post = λ κ a r e. _;
   asks_nothing = λ M 𝓤 𝓛 mem run κ a g. refl;
@@ -2105,7 +2105,7 @@ settled-ask-ask = record {
 }
 
 pub settled-replay-cost-of :
-    Settled replay-cost-of.ended (λ M. replay-cost-of.clauses {M = M}) (λ κ r. r)
+    Settled replay-cost-of.ended (λ M 𝓤 𝓛. replay-cost-of.clauses 𝓛) (λ κ r. r)
 settled-replay-cost-of = record {
   Post = λ κ a r e. _;
   asks_nothing = λ M 𝓤 𝓛 mem run κ a g. refl;
@@ -2119,7 +2119,7 @@ settled-replay-cost-of = record {
 }
 
 pub settled-replay-replay :
-    Settled replay-replay.ended (λ M. replay-replay.clauses {M = M}) (λ κ r. r)
+    Settled replay-replay.ended (λ M 𝓤 𝓛. replay-replay.clauses 𝓛) (λ κ r. r)
 settled-replay-replay = record {
   Post = λ κ a r e. _;
   asks_nothing = λ M 𝓤 𝓛 mem run κ a g. refl;
@@ -2133,7 +2133,7 @@ settled-replay-replay = record {
 }
 
 pub settled-replay-run-next :
-    Settled replay-run-next.ended (λ M. replay-run-next.clauses {M = M}) (λ κ r. r)
+    Settled replay-run-next.ended (λ M 𝓤 𝓛. replay-run-next.clauses 𝓛) (λ κ r. r)
 settled-replay-run-next = record {
   Post = λ κ a r e. _;
   asks_nothing = λ M 𝓤 𝓛 mem run κ a g. refl;
@@ -2147,7 +2147,7 @@ settled-replay-run-next = record {
 }
 
 pub settled-replay-run-record :
-    Settled replay-run-record.ended (λ M. replay-run-record.clauses {M = M}) (λ κ r. r)
+    Settled replay-run-record.ended (λ M 𝓤 𝓛. replay-run-record.clauses 𝓛) (λ κ r. r)
 settled-replay-run-record = record {
   Post = λ κ a r e. _;
   asks_nothing = λ M 𝓤 𝓛 mem run κ a g. refl;
@@ -2161,7 +2161,7 @@ settled-replay-run-record = record {
 }
 
 pub settled-replay-start :
-    Settled replay-start.ended (λ M. replay-start.clauses {M = M}) (λ κ r. r)
+    Settled replay-start.ended (λ M 𝓤 𝓛. replay-start.clauses 𝓛) (λ κ r. r)
 settled-replay-start = record {
   Post = λ κ a r e. _;
   asks_nothing = λ M 𝓤 𝓛 mem run κ a g. refl;
@@ -2175,7 +2175,7 @@ settled-replay-start = record {
 }
 
 pub settled-tape-begin :
-    Settled tape-begin.ended (λ M. tape-begin.clauses {M = M}) (λ κ r. r)
+    Settled tape-begin.ended (λ M 𝓤 𝓛. tape-begin.clauses 𝓛) (λ κ r. r)
 settled-tape-begin = record {
   Post = λ κ a r e. _;
   asks_nothing = λ M 𝓤 𝓛 mem run κ a g. refl;
@@ -2189,7 +2189,7 @@ settled-tape-begin = record {
 }
 
 pub settled-tape-cut-block :
-    Settled tape-cut-block.ended (λ M. tape-cut-block.clauses {M = M}) (λ κ r. r)
+    Settled tape-cut-block.ended (λ M 𝓤 𝓛. tape-cut-block.clauses 𝓛) (λ κ r. r)
 settled-tape-cut-block = record {
   Post = λ κ a r e. _;
   asks_nothing = λ M 𝓤 𝓛 mem run κ a g. refl;
@@ -2203,7 +2203,7 @@ settled-tape-cut-block = record {
 }
 
 pub settled-tape-feed :
-    Settled tape-feed.ended (λ M. tape-feed.clauses {M = M}) (λ κ r. r)
+    Settled tape-feed.ended (λ M 𝓤 𝓛. tape-feed.clauses 𝓛) (λ κ r. r)
 settled-tape-feed = record {
   Post = λ κ a r e. _;
   asks_nothing = λ M 𝓤 𝓛 mem run κ a g. refl;
@@ -2217,7 +2217,7 @@ settled-tape-feed = record {
 }
 
 pub settled-tape-finish :
-    Settled tape-finish.ended (λ M. tape-finish.clauses {M = M}) (λ κ r. r)
+    Settled tape-finish.ended (λ M 𝓤 𝓛. tape-finish.clauses 𝓛) (λ κ r. r)
 settled-tape-finish = record {
   Post = λ κ a r e. _;
   asks_nothing = λ M 𝓤 𝓛 mem run κ a g. refl;
@@ -2231,7 +2231,7 @@ settled-tape-finish = record {
 }
 
 pub settled-tape-held-count :
-    Settled tape-held-count.ended (λ M. tape-held-count.clauses {M = M}) (λ κ r. r)
+    Settled tape-held-count.ended (λ M 𝓤 𝓛. tape-held-count.clauses 𝓛) (λ κ r. r)
 settled-tape-held-count = record {
   Post = λ κ a r e. _;
   asks_nothing = λ M 𝓤 𝓛 mem run κ a g. refl;
@@ -2245,7 +2245,7 @@ settled-tape-held-count = record {
 }
 
 pub settled-tape-hold :
-    Settled tape-hold.ended (λ M. tape-hold.clauses {M = M}) (λ κ r. r)
+    Settled tape-hold.ended (λ M 𝓤 𝓛. tape-hold.clauses 𝓛) (λ κ r. r)
 settled-tape-hold = record {
   Post = λ κ a r e. _;
   asks_nothing = λ M 𝓤 𝓛 mem run κ a g. refl;
@@ -2259,7 +2259,7 @@ settled-tape-hold = record {
 }
 
 pub settled-listing-list-block :
-    Settled listing-list-block.ended (λ M. listing-list-block.clauses {M = M}) (λ κ r. r)
+    Settled listing-list-block.ended (λ M 𝓤 𝓛. listing-list-block.clauses 𝓛) (λ κ r. r)
 settled-listing-list-block = record {
   Post = λ κ a r e. _;
   asks_nothing = λ M 𝓤 𝓛 mem run κ a g. refl;
@@ -2273,7 +2273,7 @@ settled-listing-list-block = record {
 }
 
 pub settled-listing-list-end :
-    Settled listing-list-end.ended (λ M. listing-list-end.clauses {M = M}) (λ κ r. r)
+    Settled listing-list-end.ended (λ M 𝓤 𝓛. listing-list-end.clauses 𝓛) (λ κ r. r)
 settled-listing-list-end = record {
   Post = λ κ a r e. _;
   asks_nothing = λ M 𝓤 𝓛 mem run κ a g. refl;
@@ -2287,7 +2287,7 @@ settled-listing-list-end = record {
 }
 
 pub settled-listing-list-feed :
-    Settled listing-list-feed.ended (λ M. listing-list-feed.clauses {M = M}) (λ κ r. r)
+    Settled listing-list-feed.ended (λ M 𝓤 𝓛. listing-list-feed.clauses 𝓛) (λ κ r. r)
 settled-listing-list-feed = record {
   Post = λ κ a r e. _;
   asks_nothing = λ M 𝓤 𝓛 mem run κ a g. refl;
@@ -2301,7 +2301,7 @@ settled-listing-list-feed = record {
 }
 
 pub settled-listing-list-finish :
-    Settled listing-list-finish.ended (λ M. listing-list-finish.clauses {M = M}) (λ κ r. r)
+    Settled listing-list-finish.ended (λ M 𝓤 𝓛. listing-list-finish.clauses 𝓛) (λ κ r. r)
 settled-listing-list-finish = record {
   Post = λ κ a r e. _;
   asks_nothing = λ M 𝓤 𝓛 mem run κ a g. refl;
@@ -2315,7 +2315,7 @@ settled-listing-list-finish = record {
 }
 
 pub settled-face-part-told :
-    Settled face-part-told.ended (λ M. face-part-told.clauses {M = M}) (λ κ r. r)
+    Settled face-part-told.ended (λ M 𝓤 𝓛. face-part-told.clauses 𝓛) (λ κ r. r)
 settled-face-part-told = record {
   Post = λ κ a r e. _;
   asks_nothing = λ M 𝓤 𝓛 mem run κ a g. refl;
@@ -2329,7 +2329,7 @@ settled-face-part-told = record {
 }
 
 pub settled-face-request-from :
-    Settled face-request-from.ended (λ M. face-request-from.clauses {M = M}) (λ κ r. r)
+    Settled face-request-from.ended (λ M 𝓤 𝓛. face-request-from.clauses 𝓛) (λ κ r. r)
 settled-face-request-from = record {
   Post = λ κ a r e. _;
   asks_nothing = λ M 𝓤 𝓛 mem run κ a g. refl;
@@ -2343,7 +2343,7 @@ settled-face-request-from = record {
 }
 
 pub settled-face-request-to :
-    Settled face-request-to.ended (λ M. face-request-to.clauses {M = M}) (λ κ r. r)
+    Settled face-request-to.ended (λ M 𝓤 𝓛. face-request-to.clauses 𝓛) (λ κ r. r)
 settled-face-request-to = record {
   Post = λ κ a r e. _;
   asks_nothing = λ M 𝓤 𝓛 mem run κ a g. refl;
@@ -2357,7 +2357,7 @@ settled-face-request-to = record {
 }
 
 pub settled-face-state-from :
-    Settled face-state-from.ended (λ M. face-state-from.clauses {M = M}) (λ κ r. r)
+    Settled face-state-from.ended (λ M 𝓤 𝓛. face-state-from.clauses 𝓛) (λ κ r. r)
 settled-face-state-from = record {
   Post = λ κ a r e. _;
   asks_nothing = λ M 𝓤 𝓛 mem run κ a g. refl;
@@ -2371,7 +2371,7 @@ settled-face-state-from = record {
 }
 
 pub settled-face-state-to :
-    Settled face-state-to.ended (λ M. face-state-to.clauses {M = M}) (λ κ r. r)
+    Settled face-state-to.ended (λ M 𝓤 𝓛. face-state-to.clauses 𝓛) (λ κ r. r)
 settled-face-state-to = record {
   Post = λ κ a r e. _;
   asks_nothing = λ M 𝓤 𝓛 mem run κ a g. refl;
@@ -2385,7 +2385,7 @@ settled-face-state-to = record {
 }
 
 pub settled-face-leaves-cattlecleat-align :
-    Settled face-leaves-cattlecleat-align.ended (λ M. face-leaves-cattlecleat-align.clauses {M = M}) (λ κ r. r)
+    Settled face-leaves-cattlecleat-align.ended (λ M 𝓤 𝓛. face-leaves-cattlecleat-align.clauses 𝓛) (λ κ r. r)
 settled-face-leaves-cattlecleat-align = record {
   Post = λ κ a r e. _;
   asks_nothing = λ M 𝓤 𝓛 mem run κ a g. refl;
@@ -2399,7 +2399,7 @@ settled-face-leaves-cattlecleat-align = record {
 }
 
 pub settled-face-leaves-cattlecleat-done-with :
-    Settled face-leaves-cattlecleat-done-with.ended (λ M. face-leaves-cattlecleat-done-with.clauses {M = M}) (λ κ r. r)
+    Settled face-leaves-cattlecleat-done-with.ended (λ M 𝓤 𝓛. face-leaves-cattlecleat-done-with.clauses 𝓛) (λ κ r. r)
 settled-face-leaves-cattlecleat-done-with = record {
   Post = λ κ a r e. _;
   asks_nothing = λ M 𝓤 𝓛 mem run κ a g. refl;
@@ -2413,7 +2413,7 @@ settled-face-leaves-cattlecleat-done-with = record {
 }
 
 pub settled-face-leaves-cattlecleat-from-register :
-    Settled face-leaves-cattlecleat-from-register.ended (λ M. face-leaves-cattlecleat-from-register.clauses {M = M}) (λ κ r. r)
+    Settled face-leaves-cattlecleat-from-register.ended (λ M 𝓤 𝓛. face-leaves-cattlecleat-from-register.clauses 𝓛) (λ κ r. r)
 settled-face-leaves-cattlecleat-from-register = record {
   Post = λ κ a r e. _;
   asks_nothing = λ M 𝓤 𝓛 mem run κ a g. refl;
@@ -2427,7 +2427,7 @@ settled-face-leaves-cattlecleat-from-register = record {
 }
 
 pub settled-face-leaves-cattlecleat-put-freg32 :
-    Settled face-leaves-cattlecleat-put-freg32.ended (λ M. face-leaves-cattlecleat-put-freg32.clauses {M = M}) (λ κ r. r)
+    Settled face-leaves-cattlecleat-put-freg32.ended (λ M 𝓤 𝓛. face-leaves-cattlecleat-put-freg32.clauses 𝓛) (λ κ r. r)
 settled-face-leaves-cattlecleat-put-freg32 = record {
   Post = λ κ a r e. _;
   asks_nothing = λ M 𝓤 𝓛 mem run κ a g. refl;
@@ -2441,7 +2441,7 @@ settled-face-leaves-cattlecleat-put-freg32 = record {
 }
 
 pub settled-face-leaves-cattlecleat-put-freg64 :
-    Settled face-leaves-cattlecleat-put-freg64.ended (λ M. face-leaves-cattlecleat-put-freg64.clauses {M = M}) (λ κ r. r)
+    Settled face-leaves-cattlecleat-put-freg64.ended (λ M 𝓤 𝓛. face-leaves-cattlecleat-put-freg64.clauses 𝓛) (λ κ r. r)
 settled-face-leaves-cattlecleat-put-freg64 = record {
   Post = λ κ a r e. _;
   asks_nothing = λ M 𝓤 𝓛 mem run κ a g. refl;
@@ -2455,7 +2455,7 @@ settled-face-leaves-cattlecleat-put-freg64 = record {
 }
 
 pub settled-face-leaves-cattlecleat-put-ireg :
-    Settled face-leaves-cattlecleat-put-ireg.ended (λ M. face-leaves-cattlecleat-put-ireg.clauses {M = M}) (λ κ r. r)
+    Settled face-leaves-cattlecleat-put-ireg.ended (λ M 𝓤 𝓛. face-leaves-cattlecleat-put-ireg.clauses 𝓛) (λ κ r. r)
 settled-face-leaves-cattlecleat-put-ireg = record {
   Post = λ κ a r e. _;
   asks_nothing = λ M 𝓤 𝓛 mem run κ a g. refl;
@@ -2469,7 +2469,7 @@ settled-face-leaves-cattlecleat-put-ireg = record {
 }
 
 pub settled-face-leaves-cattlecleat-put-registers :
-    Settled face-leaves-cattlecleat-put-registers.ended (λ M. face-leaves-cattlecleat-put-registers.clauses {M = M}) (λ κ r. r)
+    Settled face-leaves-cattlecleat-put-registers.ended (λ M 𝓤 𝓛. face-leaves-cattlecleat-put-registers.clauses 𝓛) (λ κ r. r)
 settled-face-leaves-cattlecleat-put-registers = record {
   Post = λ κ a r e. _;
   asks_nothing = λ M 𝓤 𝓛 mem run κ a g. refl;
@@ -2483,7 +2483,7 @@ settled-face-leaves-cattlecleat-put-registers = record {
 }
 
 pub settled-face-leaves-cattlecleat-read-record :
-    Settled face-leaves-cattlecleat-read-record.ended (λ M. face-leaves-cattlecleat-read-record.clauses {M = M}) (λ κ r. r)
+    Settled face-leaves-cattlecleat-read-record.ended (λ M 𝓤 𝓛. face-leaves-cattlecleat-read-record.clauses 𝓛) (λ κ r. r)
 settled-face-leaves-cattlecleat-read-record = record {
   Post = λ κ a r e. _;
   asks_nothing = λ M 𝓤 𝓛 mem run κ a g. refl;
@@ -2497,7 +2497,7 @@ settled-face-leaves-cattlecleat-read-record = record {
 }
 
 pub settled-face-leaves-cattlecleat-read-registers :
-    Settled face-leaves-cattlecleat-read-registers.ended (λ M. face-leaves-cattlecleat-read-registers.clauses {M = M}) (λ κ r. r)
+    Settled face-leaves-cattlecleat-read-registers.ended (λ M 𝓤 𝓛. face-leaves-cattlecleat-read-registers.clauses 𝓛) (λ κ r. r)
 settled-face-leaves-cattlecleat-read-registers = record {
   Post = λ κ a r e. _;
   asks_nothing = λ M 𝓤 𝓛 mem run κ a g. refl;
@@ -2511,7 +2511,7 @@ settled-face-leaves-cattlecleat-read-registers = record {
 }
 
 pub settled-face-leaves-cattlecleat-take-done-reason :
-    Settled face-leaves-cattlecleat-take-done-reason.ended (λ M. face-leaves-cattlecleat-take-done-reason.clauses {M = M}) (λ κ r. r)
+    Settled face-leaves-cattlecleat-take-done-reason.ended (λ M 𝓤 𝓛. face-leaves-cattlecleat-take-done-reason.clauses 𝓛) (λ κ r. r)
 settled-face-leaves-cattlecleat-take-done-reason = record {
   Post = λ κ a r e. _;
   asks_nothing = λ M 𝓤 𝓛 mem run κ a g. refl;
@@ -2525,7 +2525,7 @@ settled-face-leaves-cattlecleat-take-done-reason = record {
 }
 
 pub settled-face-leaves-cattlecleat-to-register :
-    Settled face-leaves-cattlecleat-to-register.ended (λ M. face-leaves-cattlecleat-to-register.clauses {M = M}) (λ κ r. r)
+    Settled face-leaves-cattlecleat-to-register.ended (λ M 𝓤 𝓛. face-leaves-cattlecleat-to-register.clauses 𝓛) (λ κ r. r)
 settled-face-leaves-cattlecleat-to-register = record {
   Post = λ κ a r e. _;
   asks_nothing = λ M 𝓤 𝓛 mem run κ a g. refl;
@@ -2539,7 +2539,7 @@ settled-face-leaves-cattlecleat-to-register = record {
 }
 
 pub settled-face-leaves-cattlecleat-write-record :
-    Settled face-leaves-cattlecleat-write-record.ended (λ M. face-leaves-cattlecleat-write-record.clauses {M = M}) (λ κ r. r)
+    Settled face-leaves-cattlecleat-write-record.ended (λ M 𝓤 𝓛. face-leaves-cattlecleat-write-record.clauses 𝓛) (λ κ r. r)
 settled-face-leaves-cattlecleat-write-record = record {
   Post = λ κ a r e. _;
   asks_nothing = λ M 𝓤 𝓛 mem run κ a g. refl;
@@ -2553,7 +2553,7 @@ settled-face-leaves-cattlecleat-write-record = record {
 }
 
 pub settled-face-leaves-cattlecleat-zero-registers :
-    Settled face-leaves-cattlecleat-zero-registers.ended (λ M. face-leaves-cattlecleat-zero-registers.clauses {M = M}) (λ κ r. r)
+    Settled face-leaves-cattlecleat-zero-registers.ended (λ M 𝓤 𝓛. face-leaves-cattlecleat-zero-registers.clauses 𝓛) (λ κ r. r)
 settled-face-leaves-cattlecleat-zero-registers = record {
   Post = λ κ a r e. _;
   asks_nothing = λ M 𝓤 𝓛 mem run κ a g. refl;
@@ -2567,7 +2567,7 @@ settled-face-leaves-cattlecleat-zero-registers = record {
 }
 
 pub settled-face-place-cattlecleat-host-part-in-place :
-    Settled face-place-cattlecleat-host-part-in-place.ended (λ M. face-place-cattlecleat-host-part-in-place.clauses {M = M}) (λ κ r. r)
+    Settled face-place-cattlecleat-host-part-in-place.ended (λ M 𝓤 𝓛. face-place-cattlecleat-host-part-in-place.clauses 𝓛) (λ κ r. r)
 settled-face-place-cattlecleat-host-part-in-place = record {
   Post = λ κ a r e. _;
   asks_nothing = λ M 𝓤 𝓛 mem run κ a g. refl;
@@ -2581,7 +2581,7 @@ settled-face-place-cattlecleat-host-part-in-place = record {
 }
 
 pub settled-face-place-cattlecleat-pop-frame :
-    Settled face-place-cattlecleat-pop-frame.ended (λ M. face-place-cattlecleat-pop-frame.clauses {M = M}) (λ κ r. r)
+    Settled face-place-cattlecleat-pop-frame.ended (λ M 𝓤 𝓛. face-place-cattlecleat-pop-frame.clauses 𝓛) (λ κ r. r)
 settled-face-place-cattlecleat-pop-frame = record {
   Post = λ κ a r e. _;
   asks_nothing = λ M 𝓤 𝓛 mem run κ a g. refl;
@@ -2595,7 +2595,7 @@ settled-face-place-cattlecleat-pop-frame = record {
 }
 
 pub settled-face-place-cattlecleat-prepare-host-frame :
-    Settled face-place-cattlecleat-prepare-host-frame.ended (λ M. face-place-cattlecleat-prepare-host-frame.clauses {M = M}) (λ κ r. r)
+    Settled face-place-cattlecleat-prepare-host-frame.ended (λ M 𝓤 𝓛. face-place-cattlecleat-prepare-host-frame.clauses 𝓛) (λ κ r. r)
 settled-face-place-cattlecleat-prepare-host-frame = record {
   Post = λ κ a r e. _;
   asks_nothing = λ M 𝓤 𝓛 mem run κ a g. refl;
@@ -2609,7 +2609,7 @@ settled-face-place-cattlecleat-prepare-host-frame = record {
 }
 
 pub settled-face-place-cattlecleat-push-frame :
-    Settled face-place-cattlecleat-push-frame.ended (λ M. face-place-cattlecleat-push-frame.clauses {M = M}) (λ κ r. r)
+    Settled face-place-cattlecleat-push-frame.ended (λ M 𝓤 𝓛. face-place-cattlecleat-push-frame.clauses 𝓛) (λ κ r. r)
 settled-face-place-cattlecleat-push-frame = record {
   Post = λ κ a r e. _;
   asks_nothing = λ M 𝓤 𝓛 mem run κ a g. refl;
@@ -2623,7 +2623,7 @@ settled-face-place-cattlecleat-push-frame = record {
 }
 
 pub settled-face-place-cattlecleat-replace-frame :
-    Settled face-place-cattlecleat-replace-frame.ended (λ M. face-place-cattlecleat-replace-frame.clauses {M = M}) (λ κ r. r)
+    Settled face-place-cattlecleat-replace-frame.ended (λ M 𝓤 𝓛. face-place-cattlecleat-replace-frame.clauses 𝓛) (λ κ r. r)
 settled-face-place-cattlecleat-replace-frame = record {
   Post = λ κ a r e. _;
   asks_nothing = λ M 𝓤 𝓛 mem run κ a g. refl;
@@ -2637,7 +2637,7 @@ settled-face-place-cattlecleat-replace-frame = record {
 }
 
 pub settled-face-place-cattlecleat-reset :
-    Settled face-place-cattlecleat-reset.ended (λ M. face-place-cattlecleat-reset.clauses {M = M}) (λ κ r. r)
+    Settled face-place-cattlecleat-reset.ended (λ M 𝓤 𝓛. face-place-cattlecleat-reset.clauses 𝓛) (λ κ r. r)
 settled-face-place-cattlecleat-reset = record {
   Post = λ κ a r e. _;
   asks_nothing = λ M 𝓤 𝓛 mem run κ a g. refl;
@@ -2651,7 +2651,7 @@ settled-face-place-cattlecleat-reset = record {
 }
 
 pub settled-face-place-cattlecleat-restore-frame :
-    Settled face-place-cattlecleat-restore-frame.ended (λ M. face-place-cattlecleat-restore-frame.clauses {M = M}) (λ κ r. r)
+    Settled face-place-cattlecleat-restore-frame.ended (λ M 𝓤 𝓛. face-place-cattlecleat-restore-frame.clauses 𝓛) (λ κ r. r)
 settled-face-place-cattlecleat-restore-frame = record {
   Post = λ κ a r e. _;
   asks_nothing = λ M 𝓤 𝓛 mem run κ a g. refl;
@@ -2665,7 +2665,7 @@ settled-face-place-cattlecleat-restore-frame = record {
 }
 
 pub settled-face-place-cattlecleat-return-prepare-host-frame :
-    Settled face-place-cattlecleat-return-prepare-host-frame.ended (λ M. face-place-cattlecleat-return-prepare-host-frame.clauses {M = M}) (λ κ r. r)
+    Settled face-place-cattlecleat-return-prepare-host-frame.ended (λ M 𝓤 𝓛. face-place-cattlecleat-return-prepare-host-frame.clauses 𝓛) (λ κ r. r)
 settled-face-place-cattlecleat-return-prepare-host-frame = record {
   Post = λ κ a r e. _;
   asks_nothing = λ M 𝓤 𝓛 mem run κ a g. refl;
@@ -2679,7 +2679,7 @@ settled-face-place-cattlecleat-return-prepare-host-frame = record {
 }
 
 pub settled-face-place-cattlecleat-set :
-    Settled face-place-cattlecleat-set.ended (λ M. face-place-cattlecleat-set.clauses {M = M}) (λ κ r. r)
+    Settled face-place-cattlecleat-set.ended (λ M 𝓤 𝓛. face-place-cattlecleat-set.clauses 𝓛) (λ κ r. r)
 settled-face-place-cattlecleat-set = record {
   Post = λ κ a r e. _;
   asks_nothing = λ M 𝓤 𝓛 mem run κ a g. refl;
@@ -2693,7 +2693,7 @@ settled-face-place-cattlecleat-set = record {
 }
 
 pub settled-face-place-cattlecleat-sync-ip :
-    Settled face-place-cattlecleat-sync-ip.ended (λ M. face-place-cattlecleat-sync-ip.clauses {M = M}) (λ κ r. r)
+    Settled face-place-cattlecleat-sync-ip.ended (λ M 𝓤 𝓛. face-place-cattlecleat-sync-ip.clauses 𝓛) (λ κ r. r)
 settled-face-place-cattlecleat-sync-ip = record {
   Post = λ κ a r e. _;
   asks_nothing = λ M 𝓤 𝓛 mem run κ a g. refl;
@@ -2707,7 +2707,7 @@ settled-face-place-cattlecleat-sync-ip = record {
 }
 
 pub settled-face-place-cattlecleat-sync-registers-in-place :
-    Settled face-place-cattlecleat-sync-registers-in-place.ended (λ M. face-place-cattlecleat-sync-registers-in-place.clauses {M = M}) (λ κ r. r)
+    Settled face-place-cattlecleat-sync-registers-in-place.ended (λ M 𝓤 𝓛. face-place-cattlecleat-sync-registers-in-place.clauses 𝓛) (λ κ r. r)
 settled-face-place-cattlecleat-sync-registers-in-place = record {
   Post = λ κ a r e. _;
   asks_nothing = λ M 𝓤 𝓛 mem run κ a g. refl;
@@ -2721,7 +2721,7 @@ settled-face-place-cattlecleat-sync-registers-in-place = record {
 }
 
 pub settled-face-ask-cattlecleat-ask :
-    Settled face-ask-cattlecleat-ask.ended (λ M. face-ask-cattlecleat-ask.clauses {M = M}) (λ κ r. r)
+    Settled face-ask-cattlecleat-ask.ended (λ M 𝓤 𝓛. face-ask-cattlecleat-ask.clauses 𝓛) (λ κ r. r)
 settled-face-ask-cattlecleat-ask = record {
   Post = λ κ a r e. _;
   asks_nothing = λ M 𝓤 𝓛 mem run κ a g. refl;
@@ -2735,7 +2735,7 @@ settled-face-ask-cattlecleat-ask = record {
 }
 
 pub settled-face-ask-cattlecleat-host-part :
-    Settled face-ask-cattlecleat-host-part.ended (λ M. face-ask-cattlecleat-host-part.clauses {M = M}) (λ κ r. r)
+    Settled face-ask-cattlecleat-host-part.ended (λ M 𝓤 𝓛. face-ask-cattlecleat-host-part.clauses 𝓛) (λ κ r. r)
 settled-face-ask-cattlecleat-host-part = record {
   Post = λ κ a r e. _;
   asks_nothing = λ M 𝓤 𝓛 mem run κ a g. refl;
@@ -2749,7 +2749,7 @@ settled-face-ask-cattlecleat-host-part = record {
 }
 
 pub settled-face-ask-cattlecleat-open :
-    Settled face-ask-cattlecleat-open.ended (λ M. face-ask-cattlecleat-open.clauses {M = M}) (λ κ r. r)
+    Settled face-ask-cattlecleat-open.ended (λ M 𝓤 𝓛. face-ask-cattlecleat-open.clauses 𝓛) (λ κ r. r)
 settled-face-ask-cattlecleat-open = record {
   Post = λ κ a r e. _;
   asks_nothing = λ M 𝓤 𝓛 mem run κ a g. refl;
@@ -2763,7 +2763,7 @@ settled-face-ask-cattlecleat-open = record {
 }
 
 pub settled-face-ask-cattlecleat-sync-registers :
-    Settled face-ask-cattlecleat-sync-registers.ended (λ M. face-ask-cattlecleat-sync-registers.clauses {M = M}) (λ κ r. r)
+    Settled face-ask-cattlecleat-sync-registers.ended (λ M 𝓤 𝓛. face-ask-cattlecleat-sync-registers.clauses 𝓛) (λ κ r. r)
 settled-face-ask-cattlecleat-sync-registers = record {
   Post = λ κ a r e. _;
   asks_nothing = λ M 𝓤 𝓛 mem run κ a g. refl;
@@ -2777,7 +2777,7 @@ settled-face-ask-cattlecleat-sync-registers = record {
 }
 
 pub settled-face-replay-cattlecleat-feed :
-    Settled face-replay-cattlecleat-feed.ended (λ M. face-replay-cattlecleat-feed.clauses {M = M}) (λ κ r. r)
+    Settled face-replay-cattlecleat-feed.ended (λ M 𝓤 𝓛. face-replay-cattlecleat-feed.clauses 𝓛) (λ κ r. r)
 settled-face-replay-cattlecleat-feed = record {
   Post = λ κ a r e. _;
   asks_nothing = λ M 𝓤 𝓛 mem run κ a g. refl;
@@ -2791,7 +2791,7 @@ settled-face-replay-cattlecleat-feed = record {
 }
 
 pub settled-face-replay-cattlecleat-finish :
-    Settled face-replay-cattlecleat-finish.ended (λ M. face-replay-cattlecleat-finish.clauses {M = M}) (λ κ r. r)
+    Settled face-replay-cattlecleat-finish.ended (λ M 𝓤 𝓛. face-replay-cattlecleat-finish.clauses 𝓛) (λ κ r. r)
 settled-face-replay-cattlecleat-finish = record {
   Post = λ κ a r e. _;
   asks_nothing = λ M 𝓤 𝓛 mem run κ a g. refl;
@@ -2805,7 +2805,7 @@ settled-face-replay-cattlecleat-finish = record {
 }
 
 pub settled-face-replay-cattlecleat-replay :
-    Settled face-replay-cattlecleat-replay.ended (λ M. face-replay-cattlecleat-replay.clauses {M = M}) (λ κ r. r)
+    Settled face-replay-cattlecleat-replay.ended (λ M 𝓤 𝓛. face-replay-cattlecleat-replay.clauses 𝓛) (λ κ r. r)
 settled-face-replay-cattlecleat-replay = record {
   Post = λ κ a r e. _;
   asks_nothing = λ M 𝓤 𝓛 mem run κ a g. refl;

@@ -1,6 +1,6 @@
 -- The done slot and aligned addresses: what was heard is what is answered, in either case of the slot or of the address. Assumes nothing.
 use mathlib.Core.Path.{◌≡◌, refl, sym, ap, subst, ◌∙◌}
-use mathlib.Core.Bool.{Bool, true, false, true≢false, false≢true}
+use mathlib.Core.Bool.{true, false, true≢false, false≢true}
 use mathlib.Core.Logic.{◌↔◌, ◌⊎◌, inl, inr}
 use Prim.Native.Nat.{ℕ}
 use native.Mathlib.Omega.{arith}
@@ -103,6 +103,7 @@ module _ (ip base : ℕ) where
   unfolding align_tests
   fifteen (here e) = refl
   fifteen (there d (here e)) = refl
+  fifteen (there d (there _ p)) = elim p [ ]
 
   -- the law of regs speaks of what its function promises, and an answer of either sort is one
   aligned_either : AlignedEither (aligned ip base)

@@ -26,7 +26,7 @@ use Rattle.replay.proofs.Spent.{RanVerdict, had_stopped, stops_before, goes_on, 
 use Rattle.tape.specs.Tapes.{Taping, taping_of, ShownFed}
 use Rattle.tape.specs.AnyCuts.{bytes_run}
 use Rattle.tape.proofs.AnyCuts.{runs_its_bytes}
-use Rattle.listing.specs.Blocks.{block_room, ListedBlock, block_of, block_with, lines_text, block_listed}
+use Rattle.listing.specs.Blocks.{block_room, ListedBlock, block_listed}
 use Rattle.listing.specs.declared.taped.ListedFeeding.{ListedFeeding}
 use Rattle.listing.specs.Taped.{ShownLines, fed_lines_number}
 use Rattle.listing.proofs.Written.{fed_verdict, feed_unmoved, end_verdict, end_unmoved}

@@ -2,7 +2,7 @@
 use mathlib.Core.Path.{◌≡◌, refl, sym, ap, subst}
 use mathlib.Core.List.{List, [], ◌∷◌}
 use Prim.Native.Nat.{ℕ}
-use denote.Ref.{Bor}
+use denote.Ref.{Bor, MutBor}
 use contract.Lifetimes.{Lfts}
 use Rattle.regs.specs.declared.registers.Registers.{Registers}
 use Rattle.rules.specs.declared.Asked.{Asked}
@@ -34,6 +34,10 @@ use Rattle.demands.proofs.Heard.{heard_answered}
 abbrev pub lent : {A : Type 0} → A → Bor A
 lent value = record { ref_ptr = (0, 0); now = value }
 
+-- the same, lent to be written
+abbrev pub lent_mut : {A : Type 0} → A → MutBor A
+lent_mut value = record { ref_ptr = (0, 0); ghost_name = 0; now = value }
+
 -- ---- numbers that say the world
 module _ (κ : Lfts 2) (s : CState) (words cells : List ℕ) where
   abbrev here_said : World
@@ -43,8 +47,8 @@ module _ (κ : Lfts 2) (s : CState) (words cells : List ℕ) where
   asked_said (Traced q) =
       let n : CRequest = request_to (record_for q) in
       let t : ToldAnswer = after_told s (answer_to here_said (request_from n)) in
-      let heard = by_cattlecleat_ask κ (s, (lent words, (lent cells, (n, tt)))) t.answer
-      (s, (lent t.words, (lent t.cells, (n, tt)))) refl q (request_kept q) in
+      let heard = by_cattlecleat_ask κ (s, (lent_mut words, (lent_mut cells, (n, tt)))) t.answer
+      (s, (lent_mut t.words, (lent_mut t.cells, (n, tt)))) refl q (request_kept q) in
       subst (λ (o : After). Heard here_said (Traced q) o) (heard_answered heard) heard
   asked_said (SyncRegs regs) =
       let t : ToldAnswer = after_told s (answered here_said (SyncRegs regs)) in
@@ -72,8 +76,8 @@ module _ (κ : Lfts 2) (ι : Lfts 1) (d : ℕ) where
       let s : CState = state_to w.state in
       subst (λ (u : World). Link d u (registers_put regs ∷ []) (with_registers u regs)) (world_said_lem w)
       (put_in_place s w.words w.cells regs
-      (by_put_registers ι (lent s.regs, (regs.ireg, (regs.freg32, (regs.freg64, tt)))) tt
-      (lent regs, (regs.ireg, (regs.freg32, (regs.freg64, tt)))) refl))
+      (by_put_registers ι (lent_mut s.regs, (regs.ireg, (regs.freg32, (regs.freg64, tt)))) tt
+      (lent_mut regs, (regs.ireg, (regs.freg32, (regs.freg64, tt)))) refl))
 
   event_link : (w : World) (e : Event) → Link d w (e ∷ []) (stepped_by w e)
   unfolding stepped_by
@@ -96,5 +100,5 @@ every_trace κ d run words cells bytes deep =
     let t : RunTold = running_back run (replayed v bytes) in
     subst (λ (u : World). Link d (world_said run.state words cells) (events_ran v (entries_in bytes)) u)
     (ap (λ (v : Running). v.world) (running_said_lem run (replayed v bytes)))
-    (by_cattlecleat_replay κ (run, (lent words, (lent cells, (lent bytes, tt)))) t.run
-    (run, (lent t.words, (lent t.cells, (lent bytes, tt)))) refl deep)
+    (by_cattlecleat_replay κ (run, (lent_mut words, (lent_mut cells, (lent bytes, tt)))) t.run
+    (run, (lent_mut t.words, (lent_mut t.cells, (lent bytes, tt)))) refl deep)

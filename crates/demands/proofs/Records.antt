@@ -70,6 +70,7 @@ module _ (bytes : List ℕ) (at : ℕ) where
   read_ten (here e) = refl
   read_ten (there d (here e)) = refl
   read_ten (there c (there d (here e))) = refl
+  read_ten (there c (there d (there _ p))) = elim p [ ]
 
   read_either : (read_at bytes at ≡ read_refused 10) ⊎ (read_at bytes at ≡ read_number 0 (record_at bytes at))
   read_either = by (verdict (read_tests bytes at))
@@ -91,6 +92,7 @@ module _ (bytes : List ℕ) (at : ℕ) (r : Record) where
   unfolding write_tests
   write_ten (here e) = refl
   write_ten (there d (here e)) = refl
+  write_ten (there d (there _ p)) = elim p [ ]
 
   write_either : (record_written bytes at r ≡ write_refused bytes 10) ⊎ (record_written bytes at r ≡ write_done bytes at r)
   write_either = by (verdict (write_tests bytes at r))

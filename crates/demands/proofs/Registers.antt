@@ -1,17 +1,14 @@
 -- The registers, from what rules keeps of them. Assumes nothing.
-use mathlib.Core.Path.{◌≡◌, sym, ap, subst, ◌∙◌}
-use mathlib.Core.List.{List}
+use mathlib.Core.Path.{◌≡◌, ap, ◌∙◌}
 use Rattle.regs.specs.declared.registers.Registers.{Registers}
 use Rattle.rules.specs.declared.Request.TheVariants.{Restore}
 use Rattle.rules.specs.declared.Asked.TheVariants.{Traced, SyncRegs}
 use Rattle.rules.specs.World.{World}
 use Rattle.rules.specs.Answers.{After}
 use Rattle.rules.specs.Syncs.{restored, registers_stored}
-use Rattle.rules.specs.Events.{Event, AllKeepRegisters}
 use Rattle.rules.specs.Returning.{Accepted}
 use Rattle.rules.proofs.Kept.{registers_kept}
 use Rattle.demands.specs.Heard.{Heard}
-use Rattle.demands.specs.Links.{History}
 use Rattle.demands.specs.Registers.{RegistersBack, RegistersRead}
 use Rattle.demands.proofs.Answers.{requests_follow}
 use Rattle.demands.proofs.Links.{history_ran}

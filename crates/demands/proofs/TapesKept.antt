@@ -15,13 +15,11 @@ use Rattle.face_replay.specs.declared.tapes.CTape.{CTape}
 use Rattle.face_replay.specs.declared.tapes.CFed.{CFed}
 use Rattle.face_replay.specs.Tapes.{TapeTold, FedTold, taping_from, taping_back, feeding_back}
 use Rattle.face_replay.proofs.TapesBack.{fed_as_it_came, end_as_it_came}
-use Rattle.face_replay.proofs.cattlecleat_feed.Reads as c-feed
-use Rattle.face_replay.proofs.cattlecleat_finish.Reads as c-finish
 use Rattle.demands.specs.AsTheyCame.{TapesAsTheyCame}
 use Rattle.demands.specs.Meetings.{EveryComing}
 use Rattle.demands.specs.Taken.{Taken, by_cattlecleat_feed, by_cattlecleat_finish}
 use Rattle.demands.proofs.Taken.{taken_is, told_stays}
-use Rattle.demands.proofs.Meetings.{lent}
+use Rattle.demands.proofs.Meetings.{lent, lent_mut}
 
 module _ (c : CTape) (words cells : List ℕ) where
   abbrev t : Taping
@@ -68,11 +66,11 @@ every_coming κ ι tape words cells (a_block block) =
     let u = taping_from tape words cells in
     let f : FedTold = feeding_back tape (feeding u block) in
     let r : CFed = record { number = f.number; tape = f.told.tape } in
-    let heard = by_cattlecleat_feed κ (tape, (lent words, (lent cells, (lent block, tt)))) r
-    (tape, (lent f.told.words, (lent f.told.cells, (lent block, tt)))) refl in
+    let heard = by_cattlecleat_feed κ (tape, (lent_mut words, (lent_mut cells, (lent block, tt)))) r
+    (tape, (lent_mut f.told.words, (lent_mut f.told.cells, (lent block, tt)))) refl in
     subst (λ (s : ShownFed). Taken u (a_block block) s) (taken_is heard) heard
 every_coming κ ι tape words cells an_end =
     let u = taping_from tape words cells in
     let f : TapeTold = taping_back tape (end_told u) in
-    let heard = by_cattlecleat_finish ι (tape, (lent words, (lent cells, tt))) f.tape (tape, (lent f.words, (lent f.cells, tt))) refl in
+    let heard = by_cattlecleat_finish ι (tape, (lent_mut words, (lent_mut cells, tt))) f.tape (tape, (lent_mut f.words, (lent_mut f.cells, tt))) refl in
     subst (λ (s : ShownFed). Taken u an_end s) (taken_is heard) heard

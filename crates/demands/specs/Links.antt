@@ -77,19 +77,19 @@ entries_coming t c = entries_in (bytes_run t c)
 
 -- ---- registers in place. These functions are proved by hand and have no `Reads`: their promise is what the checker made of their `clauses`
 
-abbrev pub put_ireg_says : Promised c-put-ireg.ended (λ M. c-put-ireg.clauses {M = M})
+abbrev pub put_ireg_says : Promised c-put-ireg.ended (λ M 𝓤 𝓛. c-put-ireg.clauses 𝓛)
 put_ireg_says = record { Post = λ κ a r e. _; ensures = λ M 𝓤 𝓛 mem run κ a g r e. refl }
 
-abbrev pub put_freg32_says : Promised c-put-freg32.ended (λ M. c-put-freg32.clauses {M = M})
+abbrev pub put_freg32_says : Promised c-put-freg32.ended (λ M 𝓤 𝓛. c-put-freg32.clauses 𝓛)
 put_freg32_says = record { Post = λ κ a r e. _; ensures = λ M 𝓤 𝓛 mem run κ a g r e. refl }
 
-abbrev pub put_freg64_says : Promised c-put-freg64.ended (λ M. c-put-freg64.clauses {M = M})
+abbrev pub put_freg64_says : Promised c-put-freg64.ended (λ M 𝓤 𝓛. c-put-freg64.clauses 𝓛)
 put_freg64_says = record { Post = λ κ a r e. _; ensures = λ M 𝓤 𝓛 mem run κ a g r e. refl }
 
-abbrev pub put_registers_says : Promised c-put-registers.ended (λ M. c-put-registers.clauses {M = M})
+abbrev pub put_registers_says : Promised c-put-registers.ended (λ M 𝓤 𝓛. c-put-registers.clauses 𝓛)
 put_registers_says = record { Post = λ κ a r e. _; ensures = λ M 𝓤 𝓛 mem run κ a g r e. refl }
 
-abbrev pub zero_registers_says : Promised c-zero-registers.ended (λ M. c-zero-registers.clauses {M = M})
+abbrev pub zero_registers_says : Promised c-zero-registers.ended (λ M 𝓤 𝓛. c-zero-registers.clauses 𝓛)
 zero_registers_says = record { Post = λ κ a r e. _; ensures = λ M 𝓤 𝓛 mem run κ a g r e. refl }
 
 pub data InPlace : Registers → Registers → Type 0 where

@@ -7,7 +7,7 @@ use mathlib.Core.Path.{◌≡◌, refl, sym, ap, subst, ◌∙◌}
 use mathlib.Core.Bool.{Bool, true, false, not, ◌||◌, true≢false, false≢true}
 use mathlib.Core.Logic.{◌↔◌}
 use mathlib.Core.List.{List, [], ◌∷◌, ◌++◌, append_assoc}
-use Prim.Native.Nat.{ℕ, ◌-◌, ◌<◌, ◌≤◌}
+use Prim.Native.Nat.{ℕ, max, ◌-◌, ◌<◌, ◌≤◌}
 use native.Mathlib.Omega.{arith}
 use lib.Dec.{eqb}
 use borrow.Author.Tests.{lt-ltb, le-ltb, eqb-true, eqb-false}
@@ -23,9 +23,9 @@ use Rattle.frames.proofs.Rows.{row_same, row_other}
 use Rattle.frames.proofs.Debts.{new_start, new_debt, ip_debt, owing_unnamed, owing_other, owing_same, carried_kept, carried_none}
 use Rattle.rules.specs.declared.ReplaceArgs.{ReplaceArgs}
 use Rattle.rules.specs.declared.Request.{Request}
-use Rattle.rules.specs.declared.Request.TheVariants.{Pop, Replace, ReturnHost, Sync, Restore, Set}
+use Rattle.rules.specs.declared.Request.TheVariants.{Push, Pop, Replace, Host, ReturnHost, Sync, Restore, Reset, Set}
 use Rattle.rules.specs.declared.Asked.{Asked}
-use Rattle.rules.specs.declared.Asked.TheVariants.{Traced, SyncRegs}
+use Rattle.rules.specs.declared.Asked.TheVariants.{Traced, SyncRegs, HostPart}
 use Rattle.rules.specs.World.{World, frame_at, top_frame, top_start}
 use Rattle.rules.specs.Answers.{After}
 use Rattle.rules.specs.Shared.{grown_to}
@@ -34,7 +34,7 @@ use Rattle.rules.specs.Returns.{popped}
 use Rattle.rules.specs.Hosts.{returned_host}
 use Rattle.rules.specs.Syncs.{sync_tests, top_room, synced, restored, set_room, cell_set, registers_stored}
 use Rattle.rules.specs.Rules.{tests_of, effect_of, answered}
-use Rattle.rules.specs.Events.{Event, asks, registers_put, stepped_by, ran_through}
+use Rattle.rules.specs.Events.{Event, asks, registers_put, host_wrote, stepped_by, ran_through}
 use Rattle.rules.specs.Returning.{Gives, by_pop, by_host}
 use Rattle.rules.specs.Tails.{TailEvent, tail_replace, tail_sync, tail_set, tail_restore, tail_registers, tail_put, AllTails, replace_asked}
 use Rattle.rules.specs.Tails.{accepted_by, accepted_replaces, end_of, ends_of, greatest, names_other, other_named}
@@ -90,10 +90,13 @@ none_step : (w : World) → TailStep w [] w
 none_step w = unmoved w w refl refl (λ j b. refl) refl refl refl
 
 -- one after another
-greatest_join : (n : ℕ) (ms ks : List ℕ) → greatest n (ms ++ ks) ≡ greatest (greatest n ms) ks
+greatest_after : (ms ks : List ℕ) (n : ℕ) → greatest n (ms ++ ks) ≡ greatest (greatest n ms) ks
 unfolding greatest
-greatest_join n [] ks = refl
-greatest_join n (m ∷ ms) ks = greatest_join _ ms ks
+greatest_after [] ks n = refl
+greatest_after (m ∷ ms) ks n = greatest_after ms ks (max n m)
+
+greatest_join : (n : ℕ) (ms ks : List ℕ) → greatest n (ms ++ ks) ≡ greatest (greatest n ms) ks
+greatest_join n ms ks = greatest_after ms ks n
 
 ends_join : (s : ℕ) (ps qs : List ReplaceArgs) → ends_of s (ps ++ qs) ≡ ends_of s ps ++ ends_of s qs
 unfolding ends_of
@@ -219,6 +222,13 @@ module _ (w : World) where
   event_step (asks (Traced Restore)) tail_restore = asked_step _ (λ p. restore_step)
   event_step (asks (SyncRegs regs)) (tail_registers regs') = asked_step _ (λ p. registers_step regs)
   event_step (registers_put regs) (tail_put regs') = put_step regs
+  event_step (asks (Traced (Push _))) h = elim h [ ]
+  event_step (asks (Traced (Pop _))) h = elim h [ ]
+  event_step (asks (Traced (Host _))) h = elim h [ ]
+  event_step (asks (Traced (ReturnHost _))) h = elim h [ ]
+  event_step (asks (Traced Reset)) h = elim h [ ]
+  event_step (asks (HostPart _)) h = elim h [ ]
+  event_step (host_wrote _ _) h = elim h [ ]
 
 -- ---- a run
 run_step : (w : World) (es : List Event) → AllTails es → TailStep w (accepted_replaces w es) (ran_through w es)
@@ -244,6 +254,13 @@ left_current : (v : World) (r : Request) (i : ℕ) → Gives r i → 1 < v.state
 unfolding popped returned_host
 left_current v (Pop instance) i (by_pop j) more = debt_made_good v.state (top_frame v) more
 left_current v (ReturnHost q) i (by_host u) more = debt_made_good v.state (top_frame v) more
+left_current v (Push _) i g more = elim g [ ]
+left_current v (Replace _) i g more = elim g [ ]
+left_current v (Host _) i g more = elim g [ ]
+left_current v (Sync _) i g more = elim g [ ]
+left_current v Restore i g more = elim g [ ]
+left_current v Reset i g more = elim g [ ]
+left_current v (Set _ _) i g more = elim g [ ]
 
 debt_kept : (w : World) (A : ℕ) (qs : List ReplaceArgs) (v : World) → TailStep w qs v → NothingOwed w A → DebtKept w A qs v
 debt_kept w A qs v step h =

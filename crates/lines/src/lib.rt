@@ -1,5 +1,6 @@
 // The lines of document 01's listing as text, each written at a place of a lent buffer.
 #![tactic(auto)]
+
 ghost use Rattle.std.specs.Prelude.{◌≡◌, ◌+◌, ◌-◌, ◌≤◌, length};
 ghost use Rattle.std.proofs.lemmas.List.Edits.{sets};
 ghost use Rattle.lines.specs.Text.{line_text, stopped_text, spent_text, shown_text, text_put};

@@ -1,3 +1,2 @@
-mod Decoder
 pub mod Readers
 pub mod Settled

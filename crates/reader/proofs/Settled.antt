@@ -12,16 +12,16 @@ use Rattle.reader.proofs.next_two.Reads as next-two
 
 -- ---- what the functions over a reader promise, read off their contracts
 
-abbrev reader_at_says : Promised reader_at.ended (λ M. reader_at.clauses {M = M})
+abbrev reader_at_says : Promised reader_at.ended (λ M 𝓤 𝓛. reader_at.clauses 𝓛)
 reader_at_says = record { Post = λ κ a r e. _; ensures = λ M 𝓤 𝓛 mem run κ a g r e. refl }
 
-abbrev hand_out_says : Promised hand-out.ended (λ M. hand-out.clauses {M = M})
+abbrev hand_out_says : Promised hand-out.ended (λ M 𝓤 𝓛. hand-out.clauses 𝓛)
 hand_out_says = record { Post = λ κ a r e. _; ensures = λ M 𝓤 𝓛 mem run κ a g r e. refl }
 
-abbrev advance_says : Promised advance.ended (λ M. advance.clauses {M = M})
+abbrev advance_says : Promised advance.ended (λ M 𝓤 𝓛. advance.clauses 𝓛)
 advance_says = record { Post = λ κ a r e. _; ensures = λ M 𝓤 𝓛 mem run κ a g r e. refl }
 
-abbrev take_request_says : Promised take-request.ended (λ M. take-request.clauses {M = M})
+abbrev take_request_says : Promised take-request.ended (λ M 𝓤 𝓛. take-request.clauses 𝓛)
 take_request_says = record { Post = λ κ a r e. _; ensures = λ M 𝓤 𝓛 mem run κ a g r e. refl }
 
 -- ---- the promises

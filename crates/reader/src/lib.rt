@@ -1,13 +1,14 @@
 // A reader: it holds a lent trace and a place in it, and hands out one request after another. The decoder of the crate request does the work.
-// Functions over a Reader are proved by walks of their MIR; `next_two` has plain parameters, so its callers need none.
+// Functions over a Reader are proved as all others are, with no walk by hand; `next_two` has plain parameters.
 #![tactic(auto)]
+
 ghost use Rattle.std.specs.Prelude.{◌≡◌};
 ghost use Rattle.request.specs.Walk.{shown_next, next_at};
 ghost use Rattle.reader.specs.Held.{reader_on, passed, shown_two, nexts_at};
 
 use request::{Next, next_request, place_after};
 
-#[derive(Drop)]
+#[derive(Clone, Copy)]
 pub struct Reader<'a> {
     pub bytes: &'a [u8],
     pub at: usize,

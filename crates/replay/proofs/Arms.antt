@@ -3,7 +3,7 @@
 --     refused_says, arm_bad           a record that is refused, and one that reads badly
 --     arm_refused                     a request that is judged, and refused
 --     arm_stops, arm_goes             an accepted one: the fuel does not cover it, or it is run
-use Rattle.std.proofs.Common.{◌≡◌, ℕ, ◌+◌, ◌-◌, ◌<◌, ◌≤◌, Bool, true, false, ltb, List, sym, refl, ap, ◌∙◌}
+use Rattle.std.proofs.Common.{◌≡◌, ℕ, ◌+◌, ◌-◌, ◌<◌, ◌≤◌, Bool, true, false, ltb, List, refl, ap, ◌∙◌}
 use Rattle.choice.specs.Choose.{choose}
 use Rattle.rules.specs.declared.State.{State}
 use Rattle.rules.specs.declared.Request.{Request}

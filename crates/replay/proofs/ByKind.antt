@@ -6,7 +6,6 @@
 --     fields_say_lem, fields_say_none  the record at a place, by what its numbers gave
 use Rattle.std.proofs.Common.{◌≡◌, ℕ, ◌+◌, ◌<◌, ◌≤◌, Bool, true, false, not, List, length, sym, refl, ap, ◌∙◌, arith}
 use native.Mathlib.Decide.{dec_lt}
-use borrow.Author.Tests.{not-true, not-false}
 use Rattle.choice.specs.Choose.{choose}
 use Rattle.choice.proofs.Choices.{chosen_first, chosen_second}
 use Rattle.record.specs.declared.Record.{Record}
@@ -17,7 +16,6 @@ use Rattle.record.proofs.Coding.{kind_zero, kind_beyond, lawful_as_lem}
 use Rattle.record.proofs.Reading.{fields_bad, fields_found}
 use Rattle.rules.specs.declared.Request.{Request}
 use Rattle.rules.specs.declared.Request.TheVariants.{Push, Pop, Replace, Host, ReturnHost, Sync, Restore, Reset, Set}
-use Rattle.request.specs.declared.Decoded.{Decoded}
 use Rattle.request.specs.declared.Decoded.TheVariants.{Asks, Bad}
 use Rattle.request.specs.Requests.{record_for, push_in, replace_in, host_in, return_host_in, request_in}
 use Rattle.request.specs.Entries.{entry_at}

@@ -1,5 +1,6 @@
 // Replay: a trace run with fuel on a stack over two lent buffers, record by record or whole.
 #![tactic(auto)]
+
 mod calls;
 mod cost;
 mod flat;

@@ -1,5 +1,6 @@
 // Requests to and from trace records, and the decoder that walks a lent trace: at a place it hands out a request with the next place.
 #![tactic(auto)]
+
 mod decode;
 mod encode;
 

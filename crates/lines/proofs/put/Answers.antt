@@ -1,12 +1,9 @@
--- `lines::put` meets its contract. The invariant of its loop: what is left to write comes to what there was to write, and the length is kept.
--- The measure is what is left. Assumes nothing.
-use mathlib.Core.Path.{◌≡◌, refl}
-use Prim.Native.Nat.{◌+◌, ◌-◌}
+-- `lines::put` meets its contract: when nothing is left to write, the bytes are there. Assumes nothing.
+use mathlib.Core.Path.{refl}
 use native.Mathlib.Omega.{arith}
 use native.Mathlib.Nat.{add-zero}
 use borrow.Author.Rules.{rules}
-use lib.ListN.{length, drop, length-set}
-use lib.Seq.{sets}
+use lib.ListN.{length-set}
 use Rattle.lines.proofs.Laying.{lay_turn, lay_done}
 use Rattle.lines.proofs.put.Goals as goal
 
@@ -20,4 +17,4 @@ loop-i-preserved c =
 
 pub returns : goal.returns
 returns c =
-    (refl, lay_done c.loop-i.out c.args.text.now c.args.at c.loop-i.i _ (omega arith) c.loop-i.invariant.1)
+    record { value = refl; out_after = lay_done c.loop-i.out c.args.text.now c.args.at c.loop-i.i _ (omega arith) c.loop-i.invariant.1 }

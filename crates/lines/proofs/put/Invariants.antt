@@ -1,13 +1,8 @@
--- `lines::put` meets its contract. The invariant of its loop: what is left to write comes to what there was to write, and the length is kept.
--- The measure is what is left. Assumes nothing.
-use mathlib.Core.Path.{◌≡◌, refl}
+-- The loop of `lines::put`: what is left to write comes to what there was to write, and the length is kept. What is left falls.
+use mathlib.Core.Path.{◌≡◌}
 use Prim.Native.Nat.{◌+◌, ◌-◌}
-use native.Mathlib.Omega.{arith}
-use native.Mathlib.Nat.{add-zero}
-use borrow.Author.Rules.{rules}
-use lib.ListN.{length, drop, length-set}
+use lib.ListN.{length, drop}
 use lib.Seq.{sets}
-use Rattle.lines.proofs.Laying.{lay_turn, lay_done}
 use Rattle.lines.proofs.put.Given as goal
 
 abbrev pub invariant-loop-i : goal.invariant-loop-i

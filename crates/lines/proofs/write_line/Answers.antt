@@ -1,7 +1,6 @@
 -- `lines::write_line` meets its contract: without room nothing is written, and else one number after another. Assumes nothing.
 use mathlib.Core.Path.{sym}
 use native.Mathlib.Omega.{arith}
-use borrow.Author.Rules.{rules}
 use Rattle.lines.specs.Text.{line_text}
 use Rattle.lines.specs.Pieces.{ended_number}
 use Rattle.lines.proofs.Texts.{text_put_none}
@@ -16,7 +15,7 @@ pub returns : goal.returns
 unfolding line_text ended_number
 returns c =
     laid_put c.args.out.now _ _ c.args.at _ (omega arith)
-    (laid_number _ _ _ _ _ _ _ _ _ c.put_number-second.ensures.0
-    (laid_number _ _ _ _ _ _ _ _ _ c.put_number-third.ensures.0
-    (laid_number _ _ _ _ _ _ _ _ _ c.put_number-fourth.ensures.0
-    (laid_number _ _ _ _ _ _ _ _ _ c.put_number-fifth.ensures.0 c.put_number.ensures.0))))
+    (laid_number _ _ _ _ _ _ _ _ _ c.put_number-second.ensures.out_after
+    (laid_number _ _ _ _ _ _ _ _ _ c.put_number-third.ensures.out_after
+    (laid_number _ _ _ _ _ _ _ _ _ c.put_number-fourth.ensures.out_after
+    (laid_number _ _ _ _ _ _ _ _ _ c.put_number-fifth.ensures.out_after c.put_number.ensures.out_after))))

@@ -1,5 +1,6 @@
 // One door for the nine requests of a trace: each is asked for by its own function.
 #![tactic(auto)]
+
 ghost use Rattle.std.specs.Prelude.{◌≡◌};
 ghost use Rattle.rules.specs.declared.Asked.TheVariants.{Traced};
 ghost use Rattle.rules.specs.World.{world_of};

@@ -1,4 +1,3 @@
-pub mod Puts
 pub mod ReadBack
 pub mod Settled
 pub mod Signed

@@ -1,5 +1,6 @@
 // The C face: what needs no lent stack. Conversions to and from a register, an aligned address, the done slot, registers in place, and single records.
 #![tactic(auto)]
+
 mod leaves;
 mod records;
 mod registers;

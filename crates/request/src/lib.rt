@@ -68,6 +68,7 @@ pub fn place_after(bytes: &[u8], at: usize) -> usize
 }
 
 // Writes a request's record at a place. Refused (10), with no byte changed, where fewer than 40 bytes are left.
+#[tactic(auto, unfolding(crate::specs::Walk::request_written))]
 pub fn write_request(bytes: &mut [u8], at: usize, q: Request) -> Written
     ensures { shown_write result bytes.new ≡ request_written bytes.old at q }
 {

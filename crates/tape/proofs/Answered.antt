@@ -17,7 +17,7 @@ use Rattle.tape.specs.Tapes.{rest_in, has_stopped, went_through, fed, fed_with, 
 use Rattle.tape.specs.AnyCuts.{numbers_of, Coming, a_block, an_end, came_by, came_all, AllDone}
 use Rattle.tape.specs.AnyCuts.{EmptyBlock, EndedWithoutStop, Exactly22, Only22, Tidy, TidyStays}
 use Rattle.tape.proofs.Whole.{rest_short}
-use Rattle.tape.proofs.Fed.{feed_stopped, fed_stopped, feed_empty, fed_none, fed_ended, feed_refused, feed_goes, fed_on}
+use Rattle.tape.proofs.Feeds.{feed_stopped, fed_stopped, feed_empty, fed_none, fed_ended, feed_refused, feed_goes, fed_on}
 use Rattle.tape.proofs.AnyCuts.{held_back, fed_joins, begun_went}
 
 pub empty_block : EmptyBlock

@@ -4,7 +4,7 @@
 use mathlib.Core.Path.{◌≡◌, refl, sym, ap, subst, ◌∙◌}
 use mathlib.Core.Bool.{Bool, true, false}
 use mathlib.Core.List.{List, [], ◌∷◌, ◌++◌, append_assoc, append-nil}
-use Prim.Native.Nat.{ℕ, ◌+◌, ◌≤◌, min}
+use Prim.Native.Nat.{ℕ, ◌≤◌, min}
 use native.Mathlib.Omega.{arith}
 use lib.ListN.{length, take, replicate}
 use Rattle.choice.specs.Choose.{choose}
@@ -20,7 +20,7 @@ use Rattle.tape.specs.AnyCuts.{fed_all, joined, Coming, a_block, an_end, came_al
 use Rattle.tape.specs.AnyCuts.{AnyCuts, AnyCutsThenAny, SoFar, StopRests, StopRepeats, EndRests, ShortWaits}
 use Rattle.tape.proofs.Whole.{whole_joins, rest_joins, whole_none, rest_all, whole_rest, whole_is, rest_short}
 use Rattle.tape.proofs.Going.{replay_nothing}
-use Rattle.tape.proofs.Fed.{feed_stopped, fed_stopped, fed_none, fed_ended, fed_on, told_stopped, told_ended, told_goes}
+use Rattle.tape.proofs.Feeds.{feed_stopped, fed_stopped, fed_none, fed_ended, fed_on, told_stopped, told_ended, told_goes}
 
 -- ---- what is held comes back
 pub held_back : (l : List ℕ) → length l ≤ most_held → held_bytes (kept_of l) (length l) ≡ l

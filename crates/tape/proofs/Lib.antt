@@ -2,7 +2,7 @@ pub mod Bytes
 pub mod Whole
 pub mod Cutting
 pub mod Going
-pub mod Fed
+pub mod Feeds
 pub mod AnyCuts
 pub mod Answered
 pub mod Settled

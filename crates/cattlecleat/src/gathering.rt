@@ -6,11 +6,12 @@ use crate::say;
 use crate::say::least;
 use given::is_given;
 use listing::{FedLines, ListedFeeding, list_end, list_feed, list_finish};
+use std::io::Write;
 use tape::Tape;
 
 // How it goes on: there is more to come; the trace is at its end, or the run has stopped; the lines of a block have no room; a block could not be read,
 // or lines not written.
-#[derive(Drop)]
+#[derive(Clone, Copy)]
 pub enum Went {
     On,
     ToEnd,
@@ -20,7 +21,7 @@ pub enum Went {
 }
 
 // A tape in its course, with how many bytes of text wait to be written.
-#[derive(Drop)]
+#[derive(Clone, Copy)]
 pub struct Gathered {
     pub tape: Tape,
     pub used: usize,
@@ -28,7 +29,8 @@ pub struct Gathered {
 }
 
 // A block: its lines behind those that wait. Where they have no room, those are written first.
-pub fn list_bytes(
+pub fn list_bytes<W: Write>(
+    output: &mut W,
     tape: Tape,
     words: &mut [u64],
     cells: &mut [u64],
@@ -41,13 +43,14 @@ pub fn list_bytes(
     let listed = list_feed(tape, words, cells, block, &mut text[from..room]);
     let fed = listed.fed;
     if is_full(fed) {
-        return list_afresh(tape, words, cells, block, text, from);
+        return list_afresh(output, tape, words, cells, block, text, from);
     }
     gather(listed, from, room)
 }
 
 // Once the lines that wait are written, there is room for those of any block.
-fn list_afresh(
+fn list_afresh<W: Write>(
+    output: &mut W,
     tape: Tape,
     words: &mut [u64],
     cells: &mut [u64],
@@ -55,7 +58,7 @@ fn list_afresh(
     text: &mut [u8],
     used: usize,
 ) -> Gathered {
-    if !say::listing(text, used) {
+    if say::listing(output, text, used).is_err() {
         return Gathered {
             tape,
             used,
@@ -123,25 +126,41 @@ fn place_behind(from: usize, more: usize, end: usize) -> usize
     from + least(more, end - from)
 }
 
+// How a replay ended: with the last lines; before them, since something could not be read or written; or with more to come.
+#[derive(Clone, Copy)]
+pub enum Ended {
+    Whole,
+    Unread,
+    Unwritten,
+    Unfinished,
+}
+
 // The end of the trace, or a stop: the last lines behind those that wait, and all of them in one write.
-pub fn say_end(tape: Tape, words: &mut [u64], cells: &mut [u64], text: &mut [u8], used: usize) {
+pub fn say_end<W: Write>(
+    output: &mut W,
+    tape: Tape,
+    words: &mut [u64],
+    cells: &mut [u64],
+    text: &mut [u8],
+    used: usize,
+) -> Ended {
     let from = least(used, text.len());
     let listed = list_finish(tape, words, cells, &mut text[from..]);
     let last = listed.tape;
     let fed = listed.fed;
     let at = place_behind(from, used_by(fed), text.len());
     let more = list_end(last.run, &mut text[at..]);
-    if !say::listing(text, place_behind(at, more, text.len())) {
-        say::unwritable();
+    match say::listing(output, text, place_behind(at, more, text.len())) {
+        Ok(()) => Ended::Whole,
+        Err(_) => Ended::Unwritten,
     }
 }
 
 // What was listed before a read that failed is written.
-pub fn say_unread(text: &[u8], used: usize) {
-    if say::listing(text, used) {
-        say::unreadable();
-    } else {
-        say::unwritable();
+pub fn say_unread<W: Write>(output: &mut W, text: &[u8], used: usize) -> Ended {
+    match say::listing(output, text, used) {
+        Ok(()) => Ended::Unread,
+        Err(_) => Ended::Unwritten,
     }
 }
 

@@ -1,36 +1,27 @@
 // The sub-command: the program's first argument. With none it replays.
-#[derive(Drop)]
+use std::env::{Env, FillError};
+
+#[derive(Clone, Copy)]
 pub enum Word {
     Replay,
     Help,
     Unknown,
 }
 
-pub fn asked() -> Word {
-    if os::arg_count() < 2 {
-        return Word::Replay;
-    }
+// An argument that is longer than the buffer is no word.
+pub fn asked(rt: &impl Env) -> Word {
     let mut text = [0u8; 8];
-    let n = os::arg(1, &mut text);
-    if is_same(&text[..n], b"replay") {
-        return Word::Replay;
+    match rt.arg(1, &mut text) {
+        Err(FillError::NotPresent) => Word::Replay,
+        Err(FillError::TooLong) => Word::Unknown,
+        Ok(n) => word_of(&text[..n]),
     }
-    if is_same(&text[..n], b"help") {
-        return Word::Help;
-    }
-    Word::Unknown
 }
 
-fn is_same(a: &[u8], b: &[u8]) -> bool {
-    if a.len() != b.len() {
-        return false;
+fn word_of(text: &[u8]) -> Word {
+    match text {
+        b"replay" => Word::Replay,
+        b"help" => Word::Help,
+        _ => Word::Unknown,
     }
-    let mut i = 0;
-    while i < a.len() {
-        if a[i] != b[i] {
-            return false;
-        }
-        i += 1;
-    }
-    true
 }

@@ -1,3 +1,4 @@
+pub mod Puts
 pub mod ReadBack
 pub mod Settled
 pub mod Signed

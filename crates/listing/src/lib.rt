@@ -1,5 +1,6 @@
 // Document 01's listing: a block of a trace replayed, with its lines written into a lent buffer, and the lines at the end.
 #![tactic(auto)]
+
 mod block;
 mod end;
 mod taped;

@@ -4,38 +4,47 @@ use crate::say::least;
 use listing::{list_block, list_end};
 use replay::{Run, start};
 use stack::open;
+use std::io;
 
 const PART: usize = 120;
 
-pub fn list(bytes: &[u8], fuel: u64) {
+pub fn list(rt: &impl Print, bytes: &[u8], fuel: u64) -> io::Result<()> {
     let mut words = [0u64; 256];
     let mut cells = [0u64; 4096];
     let mut text = [0u8; 420];
-    list_on(bytes, fuel, &mut words, &mut cells, &mut text);
+    list_on(rt, bytes, fuel, &mut words, &mut cells, &mut text)
 }
 
-fn list_on(bytes: &[u8], fuel: u64, words: &mut [u64], cells: &mut [u64], text: &mut [u8]) {
+fn list_on(
+    rt: &impl Print,
+    bytes: &[u8],
+    fuel: u64,
+    words: &mut [u64],
+    cells: &mut [u64],
+    text: &mut [u8],
+) -> io::Result<()> {
     let opened = open(32768, 64, words, cells);
-    let run = list_parts(start(opened.state, fuel), words, cells, bytes, text);
+    let run = list_parts(rt, start(opened.state, fuel), words, cells, bytes, text)?;
     let used = list_end(run, text);
-    say::text(text, used);
+    say::text(rt, text, used)
 }
 
 fn list_parts(
+    rt: &impl Print,
     run: Run,
     words: &mut [u64],
     cells: &mut [u64],
     bytes: &[u8],
     text: &mut [u8],
-) -> Run {
+) -> io::Result<Run> {
     let mut so_far = run;
     let mut at = 0;
     while at < bytes.len() {
         let end = at + least(PART, bytes.len() - at);
         let listed = list_block(so_far, words, cells, &bytes[at..end], text);
-        say::text(text, listed.used);
+        say::text(rt, text, listed.used)?;
         so_far = listed.run;
         at = end;
     }
-    so_far
+    Ok(so_far)
 }

@@ -5,6 +5,7 @@ use crate::say::least;
 use listing::{FedLines, ListedFeeding, list_end, list_feed, list_finish};
 use replay::start;
 use stack::open;
+use std::io;
 use tape::{Tape, begin};
 
 // More bytes than a trace here has.
@@ -17,42 +18,45 @@ struct Stepped {
     at: usize,
 }
 
-pub fn play(bytes: &[u8], fuel: u64, script: &[usize]) {
+pub fn play(rt: &impl Print, bytes: &[u8], fuel: u64, script: &[usize]) -> io::Result<()> {
     let mut words = [0u64; 256];
     let mut cells = [0u64; 4096];
     let mut text = [0u8; 420];
-    play_on(bytes, fuel, script, &mut words, &mut cells, &mut text);
+    play_on(rt, bytes, fuel, script, &mut words, &mut cells, &mut text)
 }
 
 fn play_on(
+    rt: &impl Print,
     bytes: &[u8],
     fuel: u64,
     script: &[usize],
     words: &mut [u64],
     cells: &mut [u64],
     text: &mut [u8],
-) {
+) -> io::Result<()> {
     let opened = open(32768, 64, words, cells);
     let tape = play_all(
+        rt,
         begin(start(opened.state, fuel)),
         words,
         cells,
         bytes,
         script,
         text,
-    );
+    )?;
     let used = list_end(tape.run, text);
-    say::text(text, used);
+    say::text(rt, text, used)
 }
 
 fn play_all(
+    rt: &impl Print,
     tape: Tape,
     words: &mut [u64],
     cells: &mut [u64],
     bytes: &[u8],
     script: &[usize],
     text: &mut [u8],
-) -> Tape {
+) -> io::Result<Tape> {
     let mut so_far = tape;
     let mut at = 0;
     let mut i = 0;
@@ -60,14 +64,15 @@ fn play_all(
         let n = script[2 * i];
         let room = script[2 * i + 1];
         i += 1;
-        let next = step(so_far, words, cells, bytes, at, n, text, room);
+        let next = step(rt, so_far, words, cells, bytes, at, n, text, room)?;
         so_far = next.tape;
         at = next.at;
     }
-    so_far
+    Ok(so_far)
 }
 
 fn step(
+    rt: &impl Print,
     tape: Tape,
     words: &mut [u64],
     cells: &mut [u64],
@@ -76,21 +81,21 @@ fn step(
     n: usize,
     text: &mut [u8],
     room: usize,
-) -> Stepped {
+) -> io::Result<Stepped> {
     let most = least(room, text.len());
     if n == END {
         let told = list_finish(tape, words, cells, &mut text[0..most]);
-        say::end(most);
-        say_answer(told, text);
+        say::end(rt, most)?;
+        say_answer(rt, told, text)?;
         let tape = told.tape;
-        return Stepped { tape, at };
+        return Ok(Stepped { tape, at });
     }
     let from = least(at, bytes.len());
     let end = from + least(n, bytes.len() - from);
     let fed = list_feed(tape, words, cells, &bytes[from..end], &mut text[0..most]);
-    say::block(end - from, most);
-    say_answer(fed, text);
-    went_to(fed, from, end)
+    say::block(rt, end - from, most)?;
+    say_answer(rt, fed, text)?;
+    Ok(went_to(fed, from, end))
 }
 
 fn went_to(listed: ListedFeeding, from: usize, end: usize) -> Stepped {
@@ -102,11 +107,11 @@ fn went_to(listed: ListedFeeding, from: usize, end: usize) -> Stepped {
     }
 }
 
-fn say_answer(listed: ListedFeeding, text: &[u8]) {
+fn say_answer(rt: &impl Print, listed: ListedFeeding, text: &[u8]) -> io::Result<()> {
     let fed = listed.fed;
     match fed {
-        FedLines::Done(used) => say::answer(0, text, used),
-        FedLines::Refused => say::answer(22, text, 0),
-        FedLines::NoRoom => say::answer(19, text, 0),
+        FedLines::Done(used) => say::answer(rt, 0, text, used),
+        FedLines::Refused => say::answer(rt, 22, text, 0),
+        FedLines::NoRoom => say::answer(rt, 19, text, 0),
     }
 }

@@ -1,18 +1,35 @@
 // A trace from data/.
-ghost use Rattle.io.specs.Counts.{IsPrefixLen};
+ghost use Rattle.std.specs.Io.{ReadsAtMost};
 
 use crate::say;
+use std::io::Read;
+use std::rt::Files;
+use std::{fs, io};
 
 // Its bytes at the start of a buffer, and how many they are; none where there is no such file.
-pub fn read(name: &[u8], bytes: &mut [u8]) -> usize
-    ensures { IsPrefixLen result bytes.new }
+pub fn read(rt: &(impl Files + Print), name: &str, bytes: &mut [u8]) -> io::Result<usize>
+    ensures { ReadsAtMost result bytes.new }
 {
-    let file = os::open_read(name);
-    if file < 0 {
-        say::missing();
-        return 0;
+    match fs::open(rt, name) {
+        Ok(mut file) => read_full(&mut file, bytes),
+        Err(_) => {
+            say::missing(rt)?;
+            Ok(0)
+        }
     }
-    let n = io::read_full(file, bytes);
-    libc::close(file);
-    n
+}
+
+// As many bytes as there are, or as there is room for.
+fn read_full(file: &mut impl Read, bytes: &mut [u8]) -> io::Result<usize>
+    ensures { ReadsAtMost result bytes.new }
+{
+    let mut done = 0;
+    while done < bytes.len() {
+        let more = file.read(&mut bytes[done..])?;
+        if more == 0 {
+            break;
+        }
+        done += more;
+    }
+    Ok(done)
 }

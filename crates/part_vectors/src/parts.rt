@@ -6,31 +6,42 @@ use cells::HostFrame;
 use given::Given;
 use regs::Registers;
 use rules::State;
+use std::io;
 
 const CELLS: [u64; 10] = [1, 2, 3, 4, 5, 0xffff_ffff_ffff_ffff, 7, 8, 9, 10];
 
-#[derive(Drop)]
+#[derive(Clone, Copy)]
 struct Part {
     len: u64,
     first: u64,
 }
 
-pub fn run() {
-    say::title(b"part call params first results; cells written; cells called");
-    show(12, 2, 5, 3, 1);
-    show(12, 2, 5, 0, 3);
-    show(12, 3, 6, 3, 1);
-    show(12, 3, 6, 1, 3);
-    show(12, 4, 7, 3, 1);
-    show(12, 3, 5, 3, 1);
-    show(12, 5, 5, 0, 0);
-    show(12, 0xffff_ffff_ffff_ffff, 0, 0, 0);
-    show(13, 2, 5, 3, 1);
-    show(11, 2, 5, 0, 0);
+pub fn run(rt: &impl Print) -> io::Result<()> {
+    say::title(
+        rt,
+        "part call params first results; cells written; cells called",
+    )?;
+    show(rt, 12, 2, 5, 3, 1)?;
+    show(rt, 12, 2, 5, 0, 3)?;
+    show(rt, 12, 3, 6, 3, 1)?;
+    show(rt, 12, 3, 6, 1, 3)?;
+    show(rt, 12, 4, 7, 3, 1)?;
+    show(rt, 12, 3, 5, 3, 1)?;
+    show(rt, 12, 5, 5, 0, 0)?;
+    show(rt, 12, 0xffff_ffff_ffff_ffff, 0, 0, 0)?;
+    show(rt, 13, 2, 5, 3, 1)?;
+    show(rt, 11, 2, 5, 0, 0)
 }
 
 // The state says that so many words are lent, which is right for 12.
-fn show(lent: usize, start: usize, end: usize, params: u16, results: u16) {
+fn show(
+    rt: &impl Print,
+    lent: usize,
+    start: usize,
+    end: usize,
+    params: u16,
+    results: u16,
+) -> io::Result<()> {
     let s = state(lent);
     let frame = HostFrame {
         start,
@@ -47,15 +58,18 @@ fn show(lent: usize, start: usize, end: usize, params: u16, results: u16) {
     let room = write(stack_hosts::host_results(s, &words[..], &mut cells[..], frame));
     let answer = part.answer;
     let answered = call.answer;
-    say::row(&[
-        stack::answer_number(answer),
-        stack::answer_number(answered),
-        read.len,
-        read.first,
-        room,
-    ]);
-    say::row(&cells[..]);
-    say::row(&called[..]);
+    say::row(
+        rt,
+        &[
+            stack::answer_number(answer),
+            stack::answer_number(answered),
+            read.len,
+            read.first,
+            room,
+        ],
+    )?;
+    say::row(rt, &cells[..])?;
+    say::row(rt, &called[..])
 }
 
 fn state(words: usize) -> State {

@@ -3,8 +3,9 @@
 use crate::say;
 use record::{Record, ZERO_RECORD};
 use request::Next;
+use std::io;
 
-#[derive(Drop)]
+#[derive(Clone, Copy)]
 pub struct Told {
     pub number: u64,
     pub next: usize,
@@ -12,36 +13,39 @@ pub struct Told {
 }
 
 // Two lines. The place behind both.
-pub fn turn(trace: &[u8], at: usize) -> usize {
+pub fn turn(rt: &impl Print, trace: &[u8], at: usize) -> io::Result<usize> {
     let two = reader::next_two(trace, at);
     let first = two.first;
     let second = two.second;
     let between = request::place_after(trace, at);
-    line(trace, at, first);
-    line(trace, between, second);
-    request::place_after(trace, between)
+    line(rt, trace, at, first)?;
+    line(rt, trace, between, second)?;
+    Ok(request::place_after(trace, between))
 }
 
-fn line(trace: &[u8], at: usize, answer: Next) {
+fn line(rt: &impl Print, trace: &[u8], at: usize, answer: Next) -> io::Result<()> {
     let t = tell(answer);
     let cursor = tell(request::next_request(trace, at));
     let r = t.record;
-    say::row(&[
-        at as u64,
-        t.number,
-        t.next as u64,
-        r.kind as u64,
-        r.flags as u64,
-        r.head as u64,
-        r.params as u64,
-        r.locals as u64,
-        r.slots as u64,
-        r.results as u64,
-        r.word1,
-        r.word2,
-        r.word3,
-        unlike(t, cursor),
-    ]);
+    say::row(
+        rt,
+        &[
+            at as u64,
+            t.number,
+            t.next as u64,
+            r.kind as u64,
+            r.flags as u64,
+            r.head as u64,
+            r.params as u64,
+            r.locals as u64,
+            r.slots as u64,
+            r.results as u64,
+            r.word1,
+            r.word2,
+            r.word3,
+            unlike(t, cursor),
+        ],
+    )
 }
 
 fn tell(answer: Next) -> Told {

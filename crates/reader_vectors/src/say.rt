@@ -1,20 +1,16 @@
 // Lines of output: a title that says what is asked, then numbers with a blank between.
-use libc::STDOUT_FILENO;
+use std::io;
 
-pub fn title(words: &[u8]) {
-    io::write_all(STDOUT_FILENO, words);
-    io::write_all(STDOUT_FILENO, b"\n");
+pub fn title(rt: &impl Print, words: &str) -> io::Result<()> {
+    println!(rt; "{words}")
 }
 
 // Each number with a blank before it, but for the first.
-pub fn row(numbers: &[u64]) {
-    let mut i = 0;
-    while i < numbers.len() {
-        if 0 < i {
-            io::write_all(STDOUT_FILENO, b" ");
-        }
-        io::print_decimal(STDOUT_FILENO, numbers[i]);
-        i += 1;
+pub fn row(rt: &impl Print, numbers: &[u64]) -> io::Result<()> {
+    let mut before = "";
+    for number in numbers {
+        print!(rt; "{before}{number}")?;
+        before = " ";
     }
-    io::write_all(STDOUT_FILENO, b"\n");
+    println!(rt)
 }

@@ -3,6 +3,7 @@
 use crate::{answers, say};
 use given::Given;
 use rules::{PushArgs, Request};
+use std::io;
 
 const FILL: u8 = 0xee;
 
@@ -15,25 +16,26 @@ const PLACES: [usize; 6] = [
     0xffff_ffff_ffff_ffff,
 ];
 
-pub fn run() {
+pub fn run(rt: &impl Print) -> io::Result<()> {
     let mut trace = [FILL; 200];
     write_example(&mut trace);
     say::title(
-        b"place answer next, kind flags head params locals slots results word1 word2 word3, unlike the cursor's",
-    );
-    say::title(b"no bytes");
-    walk(&trace, 0);
-    say::title(b"the example");
-    walk(&trace, 200);
+        rt,
+        "place answer next, kind flags head params locals slots results word1 word2 word3, unlike the cursor's",
+    )?;
+    say::title(rt, "no bytes")?;
+    walk(rt, &trace, 0)?;
+    say::title(rt, "the example")?;
+    walk(rt, &trace, 200)?;
     trace[80] = 0;
-    say::title(b"record 2 bad");
-    walk(&trace, 200);
-    say::title(b"a tail of 1 byte");
-    walk(&trace, 121);
-    say::title(b"a tail of 39 bytes");
-    walk(&trace, 79);
-    say::title(b"places 20, 190, 200, 201, 2^64 - 40, 2^64 - 1");
-    turns(&trace);
+    say::title(rt, "record 2 bad")?;
+    walk(rt, &trace, 200)?;
+    say::title(rt, "a tail of 1 byte")?;
+    walk(rt, &trace, 121)?;
+    say::title(rt, "a tail of 39 bytes")?;
+    walk(rt, &trace, 79)?;
+    say::title(rt, "places 20, 190, 200, 201, 2^64 - 40, 2^64 - 1")?;
+    turns(rt, &trace)
 }
 
 // Push, push, and three pops.
@@ -64,21 +66,23 @@ fn write_example(trace: &mut [u8; 200]) {
 }
 
 // The first bytes of a trace, past their end.
-fn walk(trace: &[u8; 200], len: usize) {
+fn walk(rt: &impl Print, trace: &[u8; 200], len: usize) -> io::Result<()> {
     if 200 < len {
-        return;
+        return Ok(());
     }
     let all = &trace[..];
     let part = &all[0..len];
     let mut at = 0;
     for _ in 0..(len / 40 + 3) / 2 {
-        at = answers::turn(part, at);
+        at = answers::turn(rt, part, at)?;
     }
+    Ok(())
 }
 
-fn turns(trace: &[u8; 200]) {
+fn turns(rt: &impl Print, trace: &[u8; 200]) -> io::Result<()> {
     let all = &trace[..];
-    for i in 0..6 {
-        answers::turn(all, PLACES[i]);
+    for place in PLACES {
+        answers::turn(rt, all, place)?;
     }
+    Ok(())
 }

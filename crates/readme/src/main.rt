@@ -1,6 +1,7 @@
 // README.md's blocks of Rattle, word for word (tools/snippets), with a line for each number that their comments claim. The expected lines
 // (stdout) are worked out from document 01 by hand; none is taken from a run of this program.
 #![tactic(auto)]
+
 mod say;
 
 use done::{DoneReason, DoneSlot};
@@ -8,20 +9,21 @@ use given::Given;
 use regs::Aligned;
 use request::Next;
 use rules::{Answer, PushArgs, Request};
+use std::io;
 
-fn main() {
+fn main(rt: HostRuntime) -> io::Result<()> {
     let mut words = [0u64; 12];
     let mut cells = [0u64; 10];
     let mut trace = [0u8; 80];
     let mut text = [0u8; 210];
-    leaves();
-    let first = calls(&mut words, &mut cells);
+    leaves(&rt)?;
+    let first = calls(&rt, &mut words, &mut cells)?;
     request::write_request(&mut trace, 0, Request::Push(first));
-    records(&mut trace);
-    replays(&mut words, &mut cells, &trace, &mut text);
+    records(&rt, &mut trace)?;
+    replays(&rt, &mut words, &mut cells, &trace, &mut text)
 }
 
-fn leaves() {
+fn leaves(rt: &impl Print) -> io::Result<()> {
     let register = regs::from_i8(-1); // 255: the number's bits, zero-extended
     let address = match regs::align_relative_to(1003, 1000) {
         Aligned::At(address) => address, // 1008
@@ -30,15 +32,15 @@ fn leaves() {
     let filled = DoneSlot::empty().done_with(DoneReason::Returned(7));
     let slot = filled.slot;
     let taken = slot.take_done_reason(); // Took(Returned(7)), and the slot empty again
-    say::number(b"register", register);
-    say::number(b"address", address);
+    say::number(rt, "register", register)?;
+    say::number(rt, "address", address)?;
     let answer = taken.answer;
     let after = taken.slot;
-    say::taken(answer);
-    say::slot(after);
+    say::taken(rt, answer)?;
+    say::slot(rt, after)
 }
 
-fn calls(words: &mut [u64], cells: &mut [u64]) -> PushArgs {
+fn calls(rt: &impl Print, words: &mut [u64], cells: &mut [u64]) -> io::Result<PushArgs> {
     let opened = stack::open(80, 3, words, cells); // M 80 bytes, D 3
     let first = PushArgs {
         caller: Given::Absent,
@@ -58,40 +60,46 @@ fn calls(words: &mut [u64], cells: &mut [u64]) -> PushArgs {
     };
     let back = stack_calls::pop_frame(called.state, words, cells, 1); // Gone
     let state = opened.state;
-    say::number(b"height", state.height as u64);
-    say::number(b"depth", state.depth as u64);
-    say::number(b"push", stack::answer_number(answer));
-    say::number(b"start", start as u64);
+    say::number(rt, "height", state.height as u64)?;
+    say::number(rt, "depth", state.depth as u64)?;
+    say::number(rt, "push", stack::answer_number(answer))?;
+    say::number(rt, "start", start as u64)?;
     let returned = back.answer;
-    say::number(b"pop", stack::answer_number(returned));
-    first
+    say::number(rt, "pop", stack::answer_number(returned))?;
+    Ok(first)
 }
 
-fn records(trace: &mut [u8]) {
+fn records(rt: &impl Print, trace: &mut [u8]) -> io::Result<()> {
     let written = request::write_request(trace, 40, Request::Pop(2)); // Done; 10: no room
     let next = match request::next_request(trace, 0) {
         Next::Asks(_, next) => next, // a request, and 40, the place of the next record
         Next::Bad(next) => next, // 10: no lawful record; the walk goes on
         Next::End => 0, // nothing stands here
     };
-    say::written(written);
-    say::written(request::write_request(trace, 41, Request::Pop(2)));
-    say::number(b"next", next as u64);
+    say::written(rt, written)?;
+    say::written(rt, request::write_request(trace, 41, Request::Pop(2)))?;
+    say::number(rt, "next", next as u64)
 }
 
-fn replays(words: &mut [u64], cells: &mut [u64], trace: &[u8], text: &mut [u8]) {
+fn replays(
+    rt: &impl Print,
+    words: &mut [u64],
+    cells: &mut [u64],
+    trace: &[u8],
+    text: &mut [u8],
+) -> io::Result<()> {
     let opened = stack::open(80, 3, words, cells);
     let begun = replay::start(opened.state, 1000000);
-    say::number(b"number", begun.number);
-    say::number(b"spent", begun.spent);
+    say::number(rt, "number", begun.number)?;
+    say::number(rt, "spent", begun.spent)?;
     let mut run = replay::start(opened.state, 1000000); // number 0, nothing spent
     run = replay::replay(run, words, cells, trace); // number 2, 4 spent
     let stop = run.stop; // Absent: it did not stop before a record
     let listed = listing::list_block(run, words, cells, trace, text); // lines of 2 and 3
-    say::number(b"number", run.number);
-    say::number(b"spent", run.spent);
-    say::number(b"stop", given::is_given(stop) as u64);
-    say::text(text, listed.used);
+    say::number(rt, "number", run.number)?;
+    say::number(rt, "spent", run.spent)?;
+    say::number(rt, "stop", given::is_given(stop) as u64)?;
+    say::text(rt, text, listed.used)?;
     let used = listing::list_end(listed.run, text);
-    say::text(text, used);
+    say::text(rt, text, used)
 }

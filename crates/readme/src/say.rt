@@ -2,20 +2,17 @@
 ghost use Rattle.std.specs.Prelude.{◌≡◌, min};
 
 use done::{DoneReason, DoneSlot, Take};
-use libc::STDOUT_FILENO;
 use record::Written;
+use std::io;
 
-pub fn number(word: &[u8], n: u64) {
-    io::write_all(STDOUT_FILENO, word);
-    io::write_all(STDOUT_FILENO, b" ");
-    io::print_decimal(STDOUT_FILENO, n);
-    io::write_all(STDOUT_FILENO, b"\n");
+pub fn number(rt: &impl Print, word: &str, n: u64) -> io::Result<()> {
+    println!(rt; "{word} {n}")
 }
 
 // The first bytes of a text.
-pub fn text(bytes: &[u8], used: usize) {
+pub fn text(rt: &impl Print, bytes: &[u8], used: usize) -> io::Result<()> {
     let end = least(used, bytes.len());
-    io::write_all(STDOUT_FILENO, &bytes[0..end]);
+    rt.write_all(&bytes[0..end])
 }
 
 pub fn least(a: usize, b: usize) -> usize
@@ -27,32 +24,32 @@ pub fn least(a: usize, b: usize) -> usize
     b
 }
 
-pub fn taken(answer: Take) {
+pub fn taken(rt: &impl Print, answer: Take) -> io::Result<()> {
     match answer {
-        Take::Took(reason) => returned(reason),
-        Take::NothingToTake => number(b"nothing taken", 13),
+        Take::Took(reason) => returned(rt, reason),
+        Take::NothingToTake => number(rt, "nothing taken", 13),
     }
 }
 
-fn returned(reason: DoneReason) {
+fn returned(rt: &impl Print, reason: DoneReason) -> io::Result<()> {
     match reason {
-        DoneReason::Returned(offset) => number(b"taken: returned", offset),
-        DoneReason::HostError => number(b"taken: host error", 0),
-        DoneReason::OutOfFuel(amount) => number(b"taken: out of fuel", amount),
-        DoneReason::Error => number(b"taken: error", 0),
+        DoneReason::Returned(offset) => number(rt, "taken: returned", offset),
+        DoneReason::HostError => number(rt, "taken: host error", 0),
+        DoneReason::OutOfFuel(amount) => number(rt, "taken: out of fuel", amount),
+        DoneReason::Error => number(rt, "taken: error", 0),
     }
 }
 
-pub fn slot(after: DoneSlot) {
+pub fn slot(rt: &impl Print, after: DoneSlot) -> io::Result<()> {
     match after {
-        DoneSlot::Empty => number(b"reasons left", 0),
-        DoneSlot::Holds(_) => number(b"reasons left", 1),
+        DoneSlot::Empty => number(rt, "reasons left", 0),
+        DoneSlot::Holds(_) => number(rt, "reasons left", 1),
     }
 }
 
-pub fn written(answer: Written) {
+pub fn written(rt: &impl Print, answer: Written) -> io::Result<()> {
     match answer {
-        Written::Done => number(b"written", 0),
-        Written::Bad => number(b"written", 10),
+        Written::Done => number(rt, "written", 0),
+        Written::Bad => number(rt, "written", 10),
     }
 }

@@ -14,7 +14,7 @@ pub const DIFFER: usize = 4;
 
 pub const BAD: usize = 5;
 
-#[derive(Drop)]
+#[derive(Clone, Copy)]
 pub struct Counts {
     pub numbers: [u64; 6],
 }

@@ -1,9 +1,11 @@
 // A run of a file in its course: the state, the lengths that are lent, the tape, how the buffers are told, the place in the text, and what was counted.
 use crate::counts::{Counts, a_bad_line_more, a_line_more, entered, none_of};
 use crate::say;
+use std::io;
+use std::rt::Env;
 
 // State and tape have their numbers in the order in which a line tells them; the run of the tape has this state.
-#[derive(Drop)]
+#[derive(Clone, Copy)]
 pub struct Course {
     pub state: [u64; 11],
     pub words: usize,
@@ -29,13 +31,13 @@ pub fn fresh_course(file: usize) -> Course {
 }
 
 // A line that cannot be read, or is of no kind, or has too few numbers or too many.
-pub fn faulty(c: Course, fault: u64) -> Course {
+pub fn faulty(rt: &(impl Env + Print), c: Course, fault: u64) -> io::Result<Course> {
     let counts = c.counts;
-    say::fault(counts, fault);
-    Course {
+    say::fault(rt, counts, fault)?;
+    Ok(Course {
         counts: a_bad_line_more(counts),
         ..c
-    }
+    })
 }
 
 pub fn counted(c: Course, compared: u64, differ: u64) -> Course {

@@ -2,10 +2,12 @@
 use crate::counts::Counts;
 use crate::say;
 use crate::tokens::{BAR, least, token};
+use std::io;
 use std::num::{wrapping_add_u64, wrapping_add_usize};
+use std::rt::Env;
 
 // The next place in the line, and what was compared so far.
-#[derive(Drop)]
+#[derive(Clone, Copy)]
 pub struct Mark {
     pub at: usize,
     pub compared: u64,
@@ -21,47 +23,61 @@ pub fn mark_at(at: usize) -> Mark {
 }
 
 // Each of `names` has eight bytes; where there are fewer than numbers, all of it is the name of a list.
-pub fn held(c: Counts, tokens: &[u64], h: Mark, names: &[u8], found: &[u64]) -> Mark {
+pub fn held(
+    rt: &(impl Env + Print),
+    c: Counts,
+    tokens: &[u64],
+    h: Mark,
+    names: &[u8],
+    found: &[u64],
+) -> io::Result<Mark> {
     let mut so_far = h;
-    let mut i = 0;
-    while i < found.len() {
-        so_far = one(c, tokens, so_far, names, i, found[i]);
-        i += 1;
+    for (i, n) in found.iter().enumerate() {
+        so_far = one(rt, c, tokens, so_far, names, i, *n)?;
     }
-    so_far
+    Ok(so_far)
 }
 
 // The first n of the numbers, or all where they are fewer.
 pub fn held_first(
+    rt: &(impl Env + Print),
     c: Counts,
     tokens: &[u64],
     h: Mark,
     names: &[u8],
     found: &[u64],
     n: usize,
-) -> Mark {
+) -> io::Result<Mark> {
     let k = least(n, found.len());
-    held(c, tokens, h, names, &found[0..k])
+    held(rt, c, tokens, h, names, &found[0..k])
 }
 
 // A bar has to stand where one is found, and is no number that was compared.
-fn one(c: Counts, tokens: &[u64], h: Mark, names: &[u8], i: usize, found: u64) -> Mark {
+fn one(
+    rt: &(impl Env + Print),
+    c: Counts,
+    tokens: &[u64],
+    h: Mark,
+    names: &[u8],
+    i: usize,
+    found: u64,
+) -> io::Result<Mark> {
     let expected = token(tokens, h.at);
     let at = wrapping_add_usize(h.at, 1);
     if expected != found {
-        say::difference(c, names, i, expected, found);
-        return Mark {
+        say::difference(rt, c, names, i, expected, found)?;
+        return Ok(Mark {
             at,
             compared: wrapping_add_u64(h.compared, 1),
             differ: wrapping_add_u64(h.differ, 1),
-        };
+        });
     }
     if expected == BAR {
-        return Mark { at, ..h };
+        return Ok(Mark { at, ..h });
     }
-    Mark {
+    Ok(Mark {
         at,
         compared: wrapping_add_u64(h.compared, 1),
         differ: h.differ,
-    }
+    })
 }

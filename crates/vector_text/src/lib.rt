@@ -1,6 +1,7 @@
 // Lines of text as numbers, what they lay down, and numbers held to what they expect, for programs that run vectors. It calls nothing of the stack, and no
 // library stands on it.
 #![tactic(auto)]
+
 pub mod counts;
 pub mod course;
 pub mod floats;

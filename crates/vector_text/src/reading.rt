@@ -16,7 +16,7 @@ const HEX: u64 = 16;
 const WORD: u64 = 256;
 
 // So many numbers are read; what is being read, and its value so far; what is wrong (0 for nothing); where the next line begins.
-#[derive(Drop)]
+#[derive(Clone, Copy)]
 pub struct Reading {
     pub n: usize,
     pub base: u64,
@@ -45,20 +45,20 @@ fn bad(r: Reading) -> Reading {
 // The line that begins at a place.
 pub fn read_line(tokens: &mut [u64], text: &[u8], from: usize) -> Reading {
     let mut r = fresh_reading();
-    let mut i = from;
-    while i < text.len() {
-        let next = i + 1;
+    for i in from..text.len() {
         let b = text[i];
         if b == b'\n' {
             let last = closed(tokens, r);
-            return Reading { next, ..last };
+            return Reading {
+                next: i + 1,
+                ..last
+            };
         }
         r = fed(tokens, r, b);
-        i = next;
     }
     Reading {
         fault: UNENDED,
-        next: i,
+        next: from.max(text.len()),
         ..r
     }
 }

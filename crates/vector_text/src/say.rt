@@ -1,7 +1,8 @@
 // What is printed: differences and bad lines, each with its file and line, and what was counted.
 use crate::counts::{BAD, COMPARED, Counts, DIFFER, ENTRIES, FILE, LINE};
 use crate::tokens::{BAR, MISSING};
-use libc::STDOUT_FILENO;
+use std::io;
+use std::rt::Env;
 
 // What is wrong with a line.
 pub const BAD_TOKEN: u64 = 1;
@@ -26,107 +27,118 @@ const FAULTS: [u8; 224] =
 
 const NAME_WIDTH: usize = 8;
 
-fn text(s: &[u8]) {
-    io::write_all(STDOUT_FILENO, s);
+// No longer path names a file.
+const PATH_ROOM: usize = 4096;
+
+fn text(rt: &impl Print, s: &[u8]) -> io::Result<()> {
+    rt.write_all(s)
 }
 
-fn number(s: &[u8], n: u64) {
-    text(s);
-    io::print_decimal(STDOUT_FILENO, n);
+fn number(rt: &impl Print, s: &[u8], n: u64) -> io::Result<()> {
+    text(rt, s)?;
+    rt.print(n)
 }
 
 // A file is an argument of the program.
-fn file_name(file: usize) {
-    let mut name = [0u8; 64];
-    let n = os::arg(file, &mut name);
-    text(&name[..n]);
+fn file_name(rt: &(impl Env + Print), file: usize) -> io::Result<()> {
+    let mut name = [0u8; PATH_ROOM];
+    match rt.arg(file, &mut name) {
+        Ok(n) => text(rt, &name[..n]),
+        Err(_) => Ok(()),
+    }
 }
 
-pub fn missing(file: usize) {
-    file_name(file);
-    text(b": cannot be opened\n");
+pub fn missing(rt: &(impl Env + Print), file: usize) -> io::Result<()> {
+    file_name(rt, file)?;
+    text(rt, b": cannot be opened\n")
 }
 
-pub fn too_long(file: usize) {
-    file_name(file);
-    text(b": too long\n");
+pub fn too_long(rt: &(impl Env + Print), file: usize) -> io::Result<()> {
+    file_name(rt, file)?;
+    text(rt, b": too long\n")
 }
 
-fn place(c: Counts) {
+fn place(rt: &(impl Env + Print), c: Counts) -> io::Result<()> {
     let numbers = c.numbers;
-    file_name(numbers[FILE] as usize);
-    number(b":", numbers[LINE]);
-    text(b": ");
+    file_name(rt, numbers[FILE] as usize)?;
+    number(rt, b":", numbers[LINE])?;
+    text(rt, b": ")
 }
 
-pub fn difference(c: Counts, names: &[u8], i: usize, expected: u64, given: u64) {
-    place(c);
-    field(names, i);
-    text(b" expected ");
-    value(expected);
-    text(b", given ");
-    value(given);
-    text(b"\n");
+pub fn difference(
+    rt: &(impl Env + Print),
+    c: Counts,
+    names: &[u8],
+    i: usize,
+    expected: u64,
+    given: u64,
+) -> io::Result<()> {
+    place(rt, c)?;
+    field(rt, names, i)?;
+    text(rt, b" expected ")?;
+    value(rt, expected)?;
+    text(rt, b", given ")?;
+    value(rt, given)?;
+    text(rt, b"\n")
 }
 
-fn value(v: u64) {
+fn value(rt: &impl Print, v: u64) -> io::Result<()> {
     match v {
-        BAR => text(b"|"),
-        MISSING => text(b"nothing"),
-        _ => number(b"", v),
+        BAR => text(rt, b"|"),
+        MISSING => text(rt, b"nothing"),
+        _ => number(rt, b"", v),
     }
 }
 
 // A field's name; of a list its name and the place in it.
-fn field(names: &[u8], i: usize) {
+fn field(rt: &impl Print, names: &[u8], i: usize) -> io::Result<()> {
     let n = names.len() / NAME_WIDTH;
     if i < n {
         let at = NAME_WIDTH * i;
-        text(&names[at..at + NAME_WIDTH]);
-        return;
+        return text(rt, &names[at..at + NAME_WIDTH]);
     }
-    text(names);
-    number(b" ", i as u64);
+    text(rt, names)?;
+    number(rt, b" ", i as u64)
 }
 
-pub fn fault(c: Counts, fault: u64) {
-    place(c);
-    part(&FAULTS, fault);
-    text(b"\n");
+pub fn fault(rt: &(impl Env + Print), c: Counts, fault: u64) -> io::Result<()> {
+    place(rt, c)?;
+    part(rt, &FAULTS, fault)?;
+    text(rt, b"\n")
 }
 
-fn part(names: &[u8], k: u64) {
+fn part(rt: &impl Print, names: &[u8], k: u64) -> io::Result<()> {
     if k < BAD_TOKEN {
-        return;
+        return Ok(());
     }
     if UNENDED < k {
-        return;
+        return Ok(());
     }
     let from = FAULT_WIDTH * (k as usize - 1);
     let to = from + FAULT_WIDTH;
     if names.len() < to {
-        return;
+        return Ok(());
     }
-    text(&names[from..to]);
+    text(rt, &names[from..to])
 }
 
-pub fn sum(c: Counts) {
+pub fn sum(rt: &(impl Env + Print), c: Counts) -> io::Result<()> {
     let numbers = c.numbers;
-    file_name(numbers[FILE] as usize);
-    number(b": ", numbers[LINE]);
-    counted(b" lines, ", numbers);
+    file_name(rt, numbers[FILE] as usize)?;
+    number(rt, b": ", numbers[LINE])?;
+    counted(rt, b" lines, ", numbers)
 }
 
-pub fn total(files: u64, c: Counts) {
+pub fn total(rt: &impl Print, files: u64, c: Counts) -> io::Result<()> {
     let numbers = c.numbers;
-    number(b"all: ", files);
-    counted(b" files, ", numbers);
+    number(rt, b"all: ", files)?;
+    counted(rt, b" files, ", numbers)
 }
 
-fn counted(of: &[u8], numbers: [u64; 6]) {
-    number(of, numbers[ENTRIES]);
-    number(b" entries, ", numbers[COMPARED]);
-    number(b" numbers compared, ", numbers[DIFFER]);
-    number(b" differ, ", numbers[BAD]);
-    text(b" bad lines\n");
+fn counted(rt: &impl Print, of: &[u8], numbers: [u64; 6]) -> io::Result<()> {
+    number(rt, of, numbers[ENTRIES])?;
+    number(rt, b" entries, ", numbers[COMPARED])?;
+    number(rt, b" numbers compared, ", numbers[DIFFER])?;
+    number(rt, b" differ, ", numbers[BAD])?;
+    text(rt, b" bad lines\n")
 }

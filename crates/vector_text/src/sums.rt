@@ -4,12 +4,11 @@ use std::num::wrapping_add_u64;
 
 // Over the first n numbers.
 pub fn sum_of(words: &[u64], n: usize) -> u64 {
-    let mut j = least(n, words.len());
+    let k = least(n, words.len());
     let mut sum = 0;
     let mut placed = 0;
-    while 0 < j {
-        j -= 1;
-        sum = wrapping_add_u64(sum, words[j]);
+    for word in words[0..k].iter().rev() {
+        sum = wrapping_add_u64(sum, *word);
         placed = wrapping_add_u64(placed, sum);
     }
     twice_less(placed, sum)

@@ -1,6 +1,6 @@
 // What came of a line, as the numbers that it tells: a bar, then the answer's.
 // How many numbers were given before it, how many it tells, and which.
-#[derive(Drop)]
+#[derive(Clone, Copy)]
 pub struct Told {
     pub inputs: usize,
     pub width: usize,
@@ -8,7 +8,7 @@ pub struct Told {
 }
 
 // An answer with the state after it, over so many words and cells.
-#[derive(Drop)]
+#[derive(Clone, Copy)]
 pub struct Outcome {
     pub state: [u64; 11],
     pub words: usize,

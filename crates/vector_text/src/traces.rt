@@ -8,11 +8,9 @@ const WORD_BYTES: usize = 8;
 
 // The forty bytes of a record.
 pub fn lay(bytes: &mut [u8], at: usize, tokens: &[u64], from: usize) {
-    let mut j = 0;
-    while j < RECORD_BYTES {
+    for j in 0..RECORD_BYTES {
         let v = token(tokens, wrapping_add_usize(from, j / WORD_BYTES));
         put(bytes, wrapping_add_usize(at, j), byte_of(v, j % WORD_BYTES));
-        j += 1;
     }
 }
 
@@ -49,12 +47,10 @@ fn wide(b: u8) -> u64 {
 }
 
 pub fn word_at(bytes: &[u8], at: usize) -> u64 {
-    let mut j = 0;
     let mut v = 0;
-    while j < WORD_BYTES {
+    for j in 0..WORD_BYTES {
         let b = byte_at(bytes, wrapping_add_usize(at, j));
         v = wrapping_add_u64((v % 0x100_0000_0000_0000) * 256, b);
-        j += 1;
     }
     v
 }

@@ -9,7 +9,9 @@ use face_ask::{
 };
 use face_leaves::{cattlecleat_read_record, cattlecleat_write_record};
 use regs::Registers;
+use std::io;
 use std::num::wrapping_add_usize;
+use std::rt::Env;
 use vector_text::course::{Course, faulty, with_no_tape};
 use vector_text::floats::is_single;
 use vector_text::holding::hold_all;
@@ -45,20 +47,21 @@ pub fn request_at(tokens: &[u64], kind: u64, from: usize) -> CRequest {
 
 // A request by its kind goes by the writer and the reader of records.
 pub fn by_kind(
+    rt: &(impl Env + Print),
     c: Course,
     words: &mut [u64],
     cells: &mut [u64],
     tokens: &[u64],
     kind: u64,
-) -> Course {
+) -> io::Result<Course> {
     if kind == NO_KIND {
-        return faulty(c, NO_SUCH_WORD);
+        return faulty(rt, c, NO_SUCH_WORD);
     }
     if !are_five_counts(tokens, 1) {
-        return faulty(c, TOO_LARGE);
+        return faulty(rt, c, TOO_LARGE);
     }
     let read = written_and_read(request_at(tokens, kind, 1));
-    requested(c, words, cells, tokens, 10, read)
+    requested(rt, c, words, cells, tokens, 10, read)
 }
 
 fn written_and_read(q: CRequest) -> CRequest {
@@ -68,35 +71,48 @@ fn written_and_read(q: CRequest) -> CRequest {
     read.request
 }
 
-pub fn straight(c: Course, words: &mut [u64], cells: &mut [u64], tokens: &[u64]) -> Course {
+pub fn straight(
+    rt: &(impl Env + Print),
+    c: Course,
+    words: &mut [u64],
+    cells: &mut [u64],
+    tokens: &[u64],
+) -> io::Result<Course> {
     if !are_five_counts(tokens, 2) {
-        return faulty(c, TOO_LARGE);
+        return faulty(rt, c, TOO_LARGE);
     }
     let q = request_at(tokens, token(tokens, 1), 2);
-    requested(c, words, cells, tokens, 11, q)
+    requested(rt, c, words, cells, tokens, 11, q)
 }
 
 // A record by its bytes. One that reads badly has a request of no kind: the answer is 10.
-pub fn recorded(c: Course, words: &mut [u64], cells: &mut [u64], tokens: &[u64]) -> Course {
+pub fn recorded(
+    rt: &(impl Env + Print),
+    c: Course,
+    words: &mut [u64],
+    cells: &mut [u64],
+    tokens: &[u64],
+) -> io::Result<Course> {
     let mut bytes = [0u8; RECORD_BYTES];
     lay(&mut bytes, 0, tokens, 1);
     let read = cattlecleat_read_record(&bytes, 0);
-    requested(c, words, cells, tokens, 5, read.request)
+    requested(rt, c, words, cells, tokens, 5, read.request)
 }
 
 fn requested(
+    rt: &(impl Env + Print),
     c: Course,
     words: &mut [u64],
     cells: &mut [u64],
     tokens: &[u64],
     inputs: usize,
     q: CRequest,
-) -> Course {
+) -> io::Result<Course> {
     let w = least(c.words, words.len());
     let m = least(c.cells, cells.len());
     let before = c.state;
     let o = asked_over(before, &mut words[0..w], &mut cells[0..m], inputs, q);
-    hold_all(c, words, cells, tokens, &ANSWER, o)
+    hold_all(rt, c, words, cells, tokens, &ANSWER, o)
 }
 
 fn asked_over(
@@ -111,35 +127,45 @@ fn asked_over(
 }
 
 // Both buffers are refilled first: word i is 1000 and i, cell i is 2000 and i. The tape is one of zeros from then on.
-pub fn opened(c: Course, words: &mut [u64], cells: &mut [u64], tokens: &[u64]) -> Course {
+pub fn opened(
+    rt: &(impl Env + Print),
+    c: Course,
+    words: &mut [u64],
+    cells: &mut [u64],
+    tokens: &[u64],
+) -> io::Result<Course> {
     if words.len() < place(tokens, 3) {
-        return faulty(c, OUTSIDE);
+        return faulty(rt, c, OUTSIDE);
     }
     if cells.len() < place(tokens, 4) {
-        return faulty(c, OUTSIDE);
+        return faulty(rt, c, OUTSIDE);
     }
     refill(words, REFILLED, 1000);
     refill(cells, cells.len(), 2000);
-    open_over(c, words, cells, tokens)
+    open_over(rt, c, words, cells, tokens)
 }
 
 fn refill(buffer: &mut [u64], n: usize, from: u64) {
     let end = least(n, buffer.len());
-    let mut i = 0;
     let mut next = from;
-    while i < end {
+    for i in 0..end {
         buffer[i] = next;
         next = std::num::wrapping_add_u64(next, 1);
-        i += 1;
     }
 }
 
-fn open_over(c: Course, words: &[u64], cells: &[u64], tokens: &[u64]) -> Course {
+fn open_over(
+    rt: &(impl Env + Print),
+    c: Course,
+    words: &[u64],
+    cells: &[u64],
+    tokens: &[u64],
+) -> io::Result<Course> {
     let w = least(place(tokens, 3), words.len());
     let m = least(place(tokens, 4), cells.len());
     let bytes = place(tokens, 1);
     let o = opened_over(bytes, place(tokens, 2), &words[0..w], &cells[0..m]);
-    hold_all(with_no_tape(c), words, cells, tokens, &ANSWER, o)
+    hold_all(rt, with_no_tape(c), words, cells, tokens, &ANSWER, o)
 }
 
 fn opened_over(bytes: usize, depth: usize, words: &[u64], cells: &[u64]) -> Outcome {
@@ -147,16 +173,22 @@ fn opened_over(bytes: usize, depth: usize, words: &[u64], cells: &[u64]) -> Outc
     answer_told(4, words.len(), cells.len(), a)
 }
 
-pub fn synced(c: Course, words: &[u64], cells: &[u64], tokens: &[u64]) -> Course {
+pub fn synced(
+    rt: &(impl Env + Print),
+    c: Course,
+    words: &[u64],
+    cells: &[u64],
+    tokens: &[u64],
+) -> io::Result<Course> {
     if !is_single(tokens, 2) {
-        return faulty(c, TOO_LARGE);
+        return faulty(rt, c, TOO_LARGE);
     }
     let w = least(c.words, words.len());
     let m = least(c.cells, cells.len());
     let before = c.state;
     let regs = registers_of(token(tokens, 1), token(tokens, 2), token(tokens, 3));
     let o = synced_over(before, &words[0..w], &cells[0..m], regs);
-    hold_all(c, words, cells, tokens, &ANSWER, o)
+    hold_all(rt, c, words, cells, tokens, &ANSWER, o)
 }
 
 fn synced_over(before: [u64; 11], words: &[u64], cells: &[u64], regs: Registers) -> Outcome {
@@ -164,15 +196,22 @@ fn synced_over(before: [u64; 11], words: &[u64], cells: &[u64], regs: Registers)
     answer_told(3, words.len(), cells.len(), a)
 }
 
-pub fn lent(c: Course, words: &[u64], cells: &[u64], tokens: &[u64]) -> Course {
+pub fn lent(
+    rt: &(impl Env + Print),
+    c: Course,
+    words: &[u64],
+    cells: &[u64],
+    tokens: &[u64],
+) -> io::Result<Course> {
     if !are_counts(tokens, 3) {
-        return faulty(c, TOO_LARGE);
+        return faulty(rt, c, TOO_LARGE);
     }
     let w = least(c.words, words.len());
     let m = least(c.cells, cells.len());
     let before = c.state;
     let o = lent_over(before, &words[0..w], &cells[0..m], frame_in(tokens));
     hold_all(
+        rt,
         c,
         words,
         cells,

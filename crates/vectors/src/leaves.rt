@@ -5,44 +5,48 @@ use face_leaves::{
     CDone, CReason, cattlecleat_align, cattlecleat_done_with, cattlecleat_from_register,
     cattlecleat_take_done_reason, cattlecleat_to_register,
 };
+use std::io;
 use std::num::wrapping_add_usize;
+use std::rt::Env;
 use vector_text::course::Course;
 use vector_text::holding::hold;
 use vector_text::tokens::{BAR, token};
 use vector_text::told::Told;
 
-pub fn leaf(c: Course, tokens: &[u64]) -> Course {
+pub fn leaf(rt: &(impl Env + Print), c: Course, tokens: &[u64]) -> io::Result<Course> {
     let word = token(tokens, 0);
     let a = token(tokens, 1);
     let b = token(tokens, 2);
     match word {
         INTO => hold(
+            rt,
             c,
             tokens,
             b"bar 1   registerby type ",
             both(cattlecleat_to_register(a, b), register_of(a, b)),
         ),
         FROM => hold(
+            rt,
             c,
             tokens,
             b"bar 1   number  by type ",
             both(cattlecleat_from_register(a, b), number_of(a, b)),
         ),
-        ALIGN => hold(c, tokens, b"bar 1   number  address ", aligned(a, b)),
-        _ => slot(c, tokens, word),
+        ALIGN => hold(rt, c, tokens, b"bar 1   number  address ", aligned(a, b)),
+        _ => slot(rt, c, tokens, word),
     }
 }
 
 // fill and take
-fn slot(c: Course, tokens: &[u64], word: u64) -> Course {
+fn slot(rt: &(impl Env + Print), c: Course, tokens: &[u64], word: u64) -> io::Result<Course> {
     let before = reason(tokens, 1);
     let names = b"bar 1   number  reason  amount  slot    holds   ";
     if word == FILL {
         let filled = cattlecleat_done_with(before, reason(tokens, 3));
-        return hold(c, tokens, names, done(4, filled));
+        return hold(rt, c, tokens, names, done(4, filled));
     }
     let taken = cattlecleat_take_done_reason(before);
-    hold(c, tokens, names, done(2, taken))
+    hold(rt, c, tokens, names, done(2, taken))
 }
 
 // What the face says, and what the type's own function does.

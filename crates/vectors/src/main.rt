@@ -1,5 +1,6 @@
 // Runs vectors, the files of text that its arguments name, through the C face, and compares every number. docs/VECTORS.md says how a line is read.
 #![tactic(auto)]
+
 ghost use Rattle.std.specs.Prelude.{◌≤◌};
 
 mod asking;
@@ -13,6 +14,9 @@ mod typed;
 mod words;
 
 use line::run_line;
+use std::io::{Read, Take};
+use std::rt::{Env, Files};
+use std::{env, fs, io};
 use vector_text::counts::{Counts, a_bad_line_more, joined, none_of};
 use vector_text::course::{Course, faulty, fresh_course, moved_on};
 use vector_text::reading::read_line;
@@ -27,82 +31,84 @@ const TRACE: usize = 1280;
 
 const TOKENS: usize = 512;
 
-fn main() {
-    let mut text = io::large_buffer();
-    run_all(&mut text);
+// The bytes of a file that is too long.
+const TEXT: usize = 65_536;
+
+fn main(rt: HostRuntime) -> io::Result<()> {
+    run_all(&rt)
 }
 
 // Each argument is a file of less than 65,536 bytes.
-fn run_all(text: &mut [u8]) {
-    let end = os::arg_count();
+fn run_all(rt: &(impl Files + Env + Print + Alloc)) -> io::Result<()> {
     let mut total = none_of(0);
     let mut files = 0;
-    let mut i = 1;
-    while i < end {
-        let next = i + 1;
-        total = joined(total, run_named(i, text));
+    for (i, name) in env::args(rt)?.enumerate().skip(1) {
+        total = joined(total, run_named(rt, i, name.as_str())?);
         files = std::num::wrapping_add_u64(files, 1);
-        i = next;
     }
-    say::total(files, total);
+    say::total(rt, files, total)
 }
 
-fn run_named(file: usize, text: &mut [u8]) -> Counts {
-    let fd = open_named(file);
-    if fd < 0 {
-        say::missing(file);
-        return a_bad_line_more(none_of(file));
+fn run_named(
+    rt: &(impl Files + Env + Print + Alloc),
+    file: usize,
+    name: &str,
+) -> io::Result<Counts> {
+    let Ok(mut opened) = open_named(rt, name) else {
+        say::missing(rt, file)?;
+        return Ok(a_bad_line_more(none_of(file)));
+    };
+    let mut text = Vec::new(rt.alloc());
+    opened.read_to_end(&mut text)?;
+    if text.len() == TEXT {
+        say::too_long(rt, file)?;
+        return Ok(a_bad_line_more(none_of(file)));
     }
-    let n = io::read_full(fd, text);
-    libc::close(fd);
-    if n == text.len() {
-        say::too_long(file);
-        return a_bad_line_more(none_of(file));
-    }
-    run_file(file, &text[..n])
+    run_file(rt, file, text.as_slice())
 }
 
-fn open_named(file: usize) -> i32 {
-    let mut name = [0u8; 64];
-    let n = os::arg(file, &mut name);
-    os::open_read(&name[..n])
+// What is read of it ends where it is too long.
+fn open_named<R: Files>(rt: &R, name: &str) -> io::Result<Take<R::File>> {
+    Ok(fs::open(rt, name)?.take(TEXT as u64))
 }
 
-fn run_file(file: usize, text: &[u8]) -> Counts {
-    let mut words = [0u64; WORDS];
-    let mut cells = [0u64; CELLS];
+fn run_file(rt: &(impl Env + Print + Alloc), file: usize, text: &[u8]) -> io::Result<Counts> {
+    let mut words = vec![in rt.alloc(); 0u64; WORDS]?;
+    let mut cells = vec![in rt.alloc(); 0u64; CELLS]?;
     let mut trace = [0u8; TRACE];
     let mut tokens = [0u64; TOKENS];
     let done = run_text(
+        rt,
         fresh_course(file),
-        &mut words,
-        &mut cells,
+        words.as_mut_slice(),
+        cells.as_mut_slice(),
         &mut trace,
         &mut tokens,
         text,
-    );
+    )?;
     let counts = done.counts;
-    say::sum(counts);
-    counts
+    say::sum(rt, counts)?;
+    Ok(counts)
 }
 
 // A line a turn.
 fn run_text(
+    rt: &(impl Env + Print),
     course: Course,
     words: &mut [u64],
     cells: &mut [u64],
     trace: &mut [u8],
     tokens: &mut [u64],
     text: &[u8],
-) -> Course {
+) -> io::Result<Course> {
     let mut so_far = course;
     let mut left = text.len();
     while 0 < left {
         let next = left - 1;
-        so_far = run_one(so_far, words, cells, trace, tokens, text);
+        so_far = run_one(rt, so_far, words, cells, trace, tokens, text)?;
         left = turns_left(so_far.at, text, next);
     }
-    so_far
+    Ok(so_far)
 }
 
 // No turn more at the end.
@@ -117,24 +123,25 @@ fn turns_left(at: usize, text: &[u8], left: usize) -> usize
 
 // A line of no numbers is a comment or empty.
 fn run_one(
+    rt: &(impl Env + Print),
     c: Course,
     words: &mut [u64],
     cells: &mut [u64],
     trace: &mut [u8],
     tokens: &mut [u64],
     text: &[u8],
-) -> Course {
+) -> io::Result<Course> {
     let r = read_line(tokens, text, c.at);
     let n = r.n;
     let next = moved_on(c, r.next);
     if r.fault != 0 {
-        return faulty(next, r.fault);
+        return faulty(rt, next, r.fault);
     }
     if n == 0 {
-        return next;
+        return Ok(next);
     }
     if tokens.len() < n {
-        return faulty(next, say::TOO_MANY);
+        return faulty(rt, next, say::TOO_MANY);
     }
-    run_line(next, words, cells, trace, &tokens[0..n])
+    run_line(rt, next, words, cells, trace, &tokens[0..n])
 }

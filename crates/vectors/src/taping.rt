@@ -1,6 +1,8 @@
 // Lines on a trace that comes in blocks: the tape of the file, with the state as its run's, is fed a part of the trace, or told the end.
 use crate::states::{state_of, state_told};
 use face_replay::{CRun, CTape, cattlecleat_feed, cattlecleat_finish};
+use std::io;
+use std::rt::Env;
 use vector_text::course::{Course, faulty};
 use vector_text::holding::hold_taped;
 use vector_text::say::OUTSIDE;
@@ -14,30 +16,32 @@ const RECORD_BYTES: usize = 40;
 const KEPT: usize = 7;
 
 pub fn fed(
+    rt: &(impl Env + Print),
     c: Course,
     words: &mut [u64],
     cells: &mut [u64],
     trace: &[u8],
     tokens: &[u64],
-) -> Course {
+) -> io::Result<Course> {
     let from = place(tokens, 1);
     let to = place(tokens, 2);
     if trace.len() < to {
-        return faulty(c, OUTSIDE);
+        return faulty(rt, c, OUTSIDE);
     }
     if to < from {
-        return faulty(c, OUTSIDE);
+        return faulty(rt, c, OUTSIDE);
     }
-    fed_block(c, words, cells, &trace[from..to], tokens)
+    fed_block(rt, c, words, cells, &trace[from..to], tokens)
 }
 
 fn fed_block(
+    rt: &(impl Env + Print),
     c: Course,
     words: &mut [u64],
     cells: &mut [u64],
     block: &[u8],
     tokens: &[u64],
-) -> Course {
+) -> io::Result<Course> {
     let w = least(c.words, words.len());
     let m = least(c.cells, cells.len());
     let state = c.state;
@@ -46,10 +50,16 @@ fn fed_block(
     let done = cattlecleat_feed(came, &mut words[0..w], &mut cells[0..m], block);
     let after = done.tape;
     let o = outcome_of(w, m, after, number_told(2, 2, done.number));
-    hold_taped(c, words, cells, tokens, tape_told(after), o)
+    hold_taped(rt, c, words, cells, tokens, tape_told(after), o)
 }
 
-pub fn finished(c: Course, words: &mut [u64], cells: &mut [u64], tokens: &[u64]) -> Course {
+pub fn finished(
+    rt: &(impl Env + Print),
+    c: Course,
+    words: &mut [u64],
+    cells: &mut [u64],
+    tokens: &[u64],
+) -> io::Result<Course> {
     let w = least(c.words, words.len());
     let m = least(c.cells, cells.len());
     let state = c.state;
@@ -57,7 +67,7 @@ pub fn finished(c: Course, words: &mut [u64], cells: &mut [u64], tokens: &[u64])
     let came = tape_of(state, tape);
     let after = cattlecleat_finish(came, &mut words[0..w], &mut cells[0..m]);
     let o = outcome_of(w, m, after, number_told(0, 1, 0));
-    hold_taped(c, words, cells, tokens, tape_told(after), o)
+    hold_taped(rt, c, words, cells, tokens, tape_told(after), o)
 }
 
 // The number of a block; an end has none, and its width is the bar alone.

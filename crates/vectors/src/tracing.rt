@@ -4,6 +4,8 @@ use crate::states::state_of;
 use crate::told::{read_told, run_told};
 use face_leaves::{cattlecleat_read_record, cattlecleat_write_record};
 use face_replay::{CRun, cattlecleat_replay};
+use std::io;
+use std::rt::Env;
 use vector_text::course::{Course, faulty};
 use vector_text::holding::{hold, hold_all};
 use vector_text::say::{OUTSIDE, TOO_LARGE};
@@ -13,30 +15,32 @@ use vector_text::traces::word_at;
 
 // A part of the trace, so many times one after another.
 pub fn replayed(
+    rt: &(impl Env + Print),
     c: Course,
     words: &mut [u64],
     cells: &mut [u64],
     trace: &[u8],
     tokens: &[u64],
-) -> Course {
+) -> io::Result<Course> {
     let to = place(tokens, 7);
     let from = place(tokens, 6);
     if trace.len() < to {
-        return faulty(c, OUTSIDE);
+        return faulty(rt, c, OUTSIDE);
     }
     if to < from {
-        return faulty(c, OUTSIDE);
+        return faulty(rt, c, OUTSIDE);
     }
-    replayed_part(c, words, cells, &trace[from..to], tokens)
+    replayed_part(rt, c, words, cells, &trace[from..to], tokens)
 }
 
 fn replayed_part(
+    rt: &(impl Env + Print),
     c: Course,
     words: &mut [u64],
     cells: &mut [u64],
     part: &[u8],
     tokens: &[u64],
-) -> Course {
+) -> io::Result<Course> {
     let w = least(c.words, words.len());
     let m = least(c.cells, cells.len());
     let before = c.state;
@@ -48,6 +52,7 @@ fn replayed_part(
         token(tokens, 8),
     );
     hold_all(
+        rt,
         c,
         words,
         cells,
@@ -82,22 +87,25 @@ fn replayed_over(
 
 fn replay_times(run: CRun, words: &mut [u64], cells: &mut [u64], part: &[u8], times: u64) -> CRun {
     let mut so_far = run;
-    let mut left = times;
-    while 0 < left {
-        let next = left - 1;
+    for _ in 0..times {
         so_far = cattlecleat_replay(so_far, words, cells, part);
-        left = next;
     }
     so_far
 }
 
-pub fn read(c: Course, trace: &[u8], tokens: &[u64]) -> Course {
+pub fn read(
+    rt: &(impl Env + Print),
+    c: Course,
+    trace: &[u8],
+    tokens: &[u64],
+) -> io::Result<Course> {
     if trace.len() < place(tokens, 1) {
-        return faulty(c, OUTSIDE);
+        return faulty(rt, c, OUTSIDE);
     }
     let n = least(place(tokens, 1), trace.len());
     let found = cattlecleat_read_record(&trace[0..n], place(tokens, 2));
     hold(
+        rt,
         c,
         tokens,
         b"bar 1   number  kind    head    params  locals  slots   results flag 1  caller  callee  flag 2  instance",
@@ -105,21 +113,32 @@ pub fn read(c: Course, trace: &[u8], tokens: &[u64]) -> Course {
     )
 }
 
-pub fn written(c: Course, trace: &mut [u8], tokens: &[u64]) -> Course {
+pub fn written(
+    rt: &(impl Env + Print),
+    c: Course,
+    trace: &mut [u8],
+    tokens: &[u64],
+) -> io::Result<Course> {
     if trace.len() < place(tokens, 1) {
-        return faulty(c, OUTSIDE);
+        return faulty(rt, c, OUTSIDE);
     }
     if !are_five_counts(tokens, 4) {
-        return faulty(c, TOO_LARGE);
+        return faulty(rt, c, TOO_LARGE);
     }
     let n = least(place(tokens, 1), trace.len());
     let q = request_at(tokens, token(tokens, 3), 4);
     let number = cattlecleat_write_record(&mut trace[0..n], place(tokens, 2), q);
-    written_held(c, trace, tokens, number)
+    written_held(rt, c, trace, tokens, number)
 }
 
 // The first 48 bytes after it are told.
-fn written_held(c: Course, trace: &[u8], tokens: &[u64], number: u64) -> Course {
+fn written_held(
+    rt: &(impl Env + Print),
+    c: Course,
+    trace: &[u8],
+    tokens: &[u64],
+    number: u64,
+) -> io::Result<Course> {
     let told = Told {
         inputs: 13,
         width: 8,
@@ -140,6 +159,7 @@ fn written_held(c: Course, trace: &[u8], tokens: &[u64], number: u64) -> Course 
         ],
     };
     hold(
+        rt,
         c,
         tokens,
         b"bar 1   number  byte 0  byte 8  byte 16 byte 24 byte 32 byte 40 ",

@@ -36,7 +36,7 @@ use Rattle.rules.specs.Syncs.{set_tests, set_room, cell_set, register_tests, reg
 use Rattle.rules.specs.Rules.{tests_of, effect_of, answered}
 use Rattle.rules.proofs.Verdicts.{AskedVerdict, accepted, refused, asked_verdict, accepted_then, done_then}
 use Rattle.face.specs.Parts.{part_told}
-use Rattle.face_place.specs.Held.{state_held, registers_held, moved_put, len_put, registers_laid, emptied_put, unless_refused}
+use Rattle.face_place.specs.Held.{state_held, registers_held, moved_put, registers_laid, emptied_put, unless_refused}
 use Rattle.face_place.specs.Placed.{number_told, offset_told, frame_told, hosted_told, returned_told, world_held, answered_in}
 use Rattle.face_place.specs.Placed.{same_after, moved_after, len_after, stored_after, emptied_after}
 use Rattle.face_place.specs.Said.{number_shown, offset_shown, frame_shown, restored_shown, hosted_shown, returned_shown, SaidBy, PlacedSaid}

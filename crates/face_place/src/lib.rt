@@ -2,6 +2,7 @@
 // words, and hands back a small answer. Every word means something, so every argument gets an answer. include/cattlecleat.h says what each function
 // means, and which of its structs these words are.
 #![tactic(auto)]
+
 mod answers;
 mod calls;
 mod hosts;

@@ -1,0 +1,11 @@
+-- `face_place::syncs::cattlecleat_restore_frame` meets its contract: the request by value, told in place. Assumes nothing.
+use mathlib.Core.Path.{refl}
+use Rattle.face_place.specs.Placed.{frame_told, same_after}
+use Rattle.face_place.proofs.Placing.{is_placed}
+use Rattle.face_place.proofs.syncs.cattlecleat_restore_frame.Goals as goal
+
+pub returns : goal.returns
+returns c =
+    is_placed frame_told same_after c.args.state.now c.args.words.now c.args.cells.now _ c.state_held.ensures _ _
+    refl _ c.restore_frame-out.ensures
+    _ c.frame_told.ensures _ refl

@@ -1,5 +1,6 @@
 // The C face: whole traces replayed. The run goes in and out by value, and what a trace leaves as it was comes back number for number.
 #![tactic(auto)]
+
 mod flagged;
 mod tapes;
 mod traces;

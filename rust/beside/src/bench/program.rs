@@ -10,7 +10,7 @@ use std::path::Path;
 use std::process::{Command, Stdio};
 
 /// From the repository's folder, where `./cattlecleat bench` runs.
-const PROGRAM: &str = "target/bin/cattlecleat";
+const PROGRAM: &str = "crates/cattlecleat/out/cattlecleat";
 const WORD: &str = "replay";
 
 /// As many as its fuel covers at a cost of 1 each.

@@ -18,13 +18,7 @@ use request::Decoded;
 use stack::{no_host, open, sync_regs};
 
 // Opens a stack: the height limit in bytes, the depth limit in frames. 14, with a state of zeros.
-#[unsafe(no_mangle)]
-pub extern "C" fn cattlecleat_open(
-    bytes: usize,
-    depth: usize,
-    words: &[u64],
-    cells: &[u64],
-) -> CAnswer
+pub fn cattlecleat_open(bytes: usize, depth: usize, words: &[u64], cells: &[u64]) -> CAnswer
     ensures { result ≡ opening_told (stack_opened bytes depth (length words.now) (length cells.now)) }
 {
     let out = open(bytes, depth, words, cells);
@@ -33,13 +27,7 @@ pub extern "C" fn cattlecleat_open(
 }
 
 // Asks for one of the nine requests. 10 where the kind is none of them.
-#[unsafe(no_mangle)]
-pub extern "C" fn cattlecleat_ask(
-    s: CState,
-    words: &mut [u64],
-    cells: &mut [u64],
-    q: CRequest,
-) -> CAnswer
+pub fn cattlecleat_ask(s: CState, words: &mut [u64], cells: &mut [u64], q: CRequest) -> CAnswer
     ensures { told result words.new cells.new
         ≡ after_told s (answer_to (world_of (state_from s) words.old cells.old) (request_from q)) }
 {
@@ -50,8 +38,7 @@ pub extern "C" fn cattlecleat_ask(
 }
 
 // Stores all three registers, bit for bit. Only 9 refuses it.
-#[unsafe(no_mangle)]
-pub extern "C" fn cattlecleat_sync_registers(
+pub fn cattlecleat_sync_registers(
     s: CState,
     words: &[u64],
     cells: &[u64],

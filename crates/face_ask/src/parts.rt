@@ -8,13 +8,7 @@ use cells::HostFrame;
 use face::{CPart, CState, part_told, state_from};
 
 // Where a host's part lies. 9, 11. An empty part is at 0.
-#[unsafe(no_mangle)]
-pub extern "C" fn cattlecleat_host_part(
-    s: CState,
-    words: &[u64],
-    cells: &[u64],
-    frame: HostFrame,
-) -> CPart
+pub fn cattlecleat_host_part(s: CState, words: &[u64], cells: &[u64], frame: HostFrame) -> CPart
     ensures { result ≡ part_told (world_of (state_from s) words.now cells.now) frame }
 {
     part_told(state_from(s), words, cells, frame)

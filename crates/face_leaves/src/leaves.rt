@@ -33,8 +33,7 @@ pub struct CAligned {
 
 // The register of a number. Types: 1 to 4 u8, u16, u32, u64; 5 to 8 i8, i16, i32, i64; 9 bool; any other is taken as u64. The number's low bits count,
 // a signed one's as an unsigned one's.
-#[unsafe(no_mangle)]
-pub extern "C" fn cattlecleat_to_register(kind: u64, number: u64) -> u64
+pub fn cattlecleat_to_register(kind: u64, number: u64) -> u64
     ensures { result ≡ register_for kind number }
 {
     match kind {
@@ -50,8 +49,7 @@ pub extern "C" fn cattlecleat_to_register(kind: u64, number: u64) -> u64
 }
 
 // The number of a register, by the same types; a signed one has its sign in all 64 bits.
-#[unsafe(no_mangle)]
-pub extern "C" fn cattlecleat_from_register(kind: u64, register: u64) -> u64
+pub fn cattlecleat_from_register(kind: u64, register: u64) -> u64
     ensures { result ≡ number_for kind register }
 {
     match kind {
@@ -77,8 +75,7 @@ fn sign_extended(low: u64, half: u64, rest: u64) -> u64
 }
 
 // Base plus the distance of ip from it, rounded up to a multiple of 8. 15.
-#[unsafe(no_mangle)]
-pub extern "C" fn cattlecleat_align(ip: u64, base: u64) -> CAligned
+pub fn cattlecleat_align(ip: u64, base: u64) -> CAligned
     ensures { result ≡ aligned_told (aligned ip base) }
 {
     match align_relative_to(ip, base) {

@@ -23,8 +23,7 @@ const IP_GIVEN: u8 = 1;
 const INSTANCE_GIVEN: u8 = 2;
 
 // The request of the record at a place. 10 where it breaks the rules of its kind, or fewer than 40 bytes are left.
-#[unsafe(no_mangle)]
-pub extern "C" fn cattlecleat_read_record(bytes: &[u8], at: usize) -> CRead
+pub fn cattlecleat_read_record(bytes: &[u8], at: usize) -> CRead
     ensures { result ≡ read_told (read_at bytes.now at) }
 {
     match read_record(bytes, at) {
@@ -40,8 +39,7 @@ pub extern "C" fn cattlecleat_read_record(bytes: &[u8], at: usize) -> CRead
 }
 
 // Writes the record that the numbers spell at a place: 0. 10, with no byte changed, where it breaks the rules of its kind or fewer than 40 bytes are left.
-#[unsafe(no_mangle)]
-pub extern "C" fn cattlecleat_write_record(bytes: &mut [u8], at: usize, q: CRequest) -> u64
+pub fn cattlecleat_write_record(bytes: &mut [u8], at: usize, q: CRequest) -> u64
     ensures { write_number result bytes.new ≡ written_by bytes.old at q }
 {
     let kind = q.kind;

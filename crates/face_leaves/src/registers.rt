@@ -7,48 +7,42 @@ use face::CState;
 use regs::Registers;
 
 // The registers of a state, bit for bit.
-#[unsafe(no_mangle)]
-pub extern "C" fn cattlecleat_read_registers(s: CState) -> Registers
+pub fn cattlecleat_read_registers(s: CState) -> Registers
     ensures { result ≡ registers_in s }
 {
     s.regs
 }
 
 // Stores the integer register.
-#[unsafe(no_mangle)]
-pub extern "C" fn cattlecleat_put_ireg(r: &mut Registers, v: u64)
+pub fn cattlecleat_put_ireg(r: &mut Registers, v: u64)
     ensures { r.new ≡ with_ireg r.old v }
 {
     *r = Registers::with_ireg(*r, v);
 }
 
 // Stores the f32 register.
-#[unsafe(no_mangle)]
-pub extern "C" fn cattlecleat_put_freg32(r: &mut Registers, v: f32)
+pub fn cattlecleat_put_freg32(r: &mut Registers, v: f32)
     ensures { r.new ≡ with_freg32 r.old v }
 {
     *r = Registers::with_freg32(*r, v);
 }
 
 // Stores the f64 register.
-#[unsafe(no_mangle)]
-pub extern "C" fn cattlecleat_put_freg64(r: &mut Registers, v: f64)
+pub fn cattlecleat_put_freg64(r: &mut Registers, v: f64)
     ensures { r.new ≡ with_freg64 r.old v }
 {
     *r = Registers::with_freg64(*r, v);
 }
 
 // Stores all three.
-#[unsafe(no_mangle)]
-pub extern "C" fn cattlecleat_put_registers(r: &mut Registers, ireg: u64, freg32: f32, freg64: f64)
+pub fn cattlecleat_put_registers(r: &mut Registers, ireg: u64, freg32: f32, freg64: f64)
     ensures { r.new ≡ registers_of ireg freg32 freg64 }
 {
     *r = Registers::stored(ireg, freg32, freg64);
 }
 
 // Zeroes all three: every bit is 0.
-#[unsafe(no_mangle)]
-pub extern "C" fn cattlecleat_zero_registers(r: &mut Registers)
+pub fn cattlecleat_zero_registers(r: &mut Registers)
     ensures { r.new ≡ zero_registers }
 {
     *r = Registers::zeroed();

@@ -33,8 +33,7 @@ const ERROR: u64 = 4;
 const NONE: CReason = CReason { kind: 0, amount: 0 };
 
 // Fills a slot. 12: the reason in it stays.
-#[unsafe(no_mangle)]
-pub extern "C" fn cattlecleat_done_with(slot: CReason, reason: CReason) -> CDone
+pub fn cattlecleat_done_with(slot: CReason, reason: CReason) -> CDone
     ensures { result ≡ filled_told slot (filled (slot_said slot) (reason_said reason)) }
 {
     let after = slot_from(slot).done_with(reason_from(reason));
@@ -62,8 +61,7 @@ fn fill_told(answer: Fill, left: CReason, came: CReason) -> CDone
 }
 
 // Takes the reason out of a slot. 13.
-#[unsafe(no_mangle)]
-pub extern "C" fn cattlecleat_take_done_reason(slot: CReason) -> CDone
+pub fn cattlecleat_take_done_reason(slot: CReason) -> CDone
     ensures { result ≡ taken_told slot (taken (slot_said slot)) }
 {
     let after = slot_from(slot).take_done_reason();

@@ -11,8 +11,7 @@ use crate::state::{move_state, state_held};
 use stack_calls::{pop_frame, push_frame, replace_frame};
 
 // Calls: the offset is the new frame's start. 9, 2 (depth), 4 or 6, 5, 2, 3.
-#[unsafe(no_mangle)]
-pub extern "C" fn cattlecleat_push_frame(
+pub fn cattlecleat_push_frame(
     state: &mut [u64; 8],
     words: &mut [u64],
     cells: &mut [u64],
@@ -30,8 +29,7 @@ pub extern "C" fn cattlecleat_push_frame(
 }
 
 // Returns: 1 where the last frame is gone; else the ip and start of the frame below, and the debt or else the instance given. 9, 4.
-#[unsafe(no_mangle)]
-pub extern "C" fn cattlecleat_pop_frame(
+pub fn cattlecleat_pop_frame(
     state: &mut [u64; 8],
     words: &[u64],
     cells: &[u64],
@@ -49,8 +47,7 @@ pub extern "C" fn cattlecleat_pop_frame(
 }
 
 // Calls in place of the newest frame: the offset is its start. 9, 4, 5, 2, 3, 7.
-#[unsafe(no_mangle)]
-pub extern "C" fn cattlecleat_replace_frame(
+pub fn cattlecleat_replace_frame(
     state: &mut [u64; 8],
     words: &mut [u64],
     cells: &mut [u64],

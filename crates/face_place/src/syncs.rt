@@ -12,13 +12,7 @@ use rules::Judgement;
 use stack::{answer_number, judge_sync_regs, refusal_number, reset, restore_frame, set, sync_ip};
 
 // Stores an ip in the newest frame; the offset is its start. 9, 4.
-#[unsafe(no_mangle)]
-pub extern "C" fn cattlecleat_sync_ip(
-    state: &[u64; 8],
-    words: &mut [u64],
-    cells: &[u64],
-    ip: u64,
-) -> COffset
+pub fn cattlecleat_sync_ip(state: &[u64; 8], words: &mut [u64], cells: &[u64], ip: u64) -> COffset
     ensures { placed result state.now words.new cells.now
         ≡ placed_after offset_told same_after state.now
         (answered_in state.now words.old cells.now (Traced (Sync ip))) }
@@ -29,12 +23,7 @@ pub extern "C" fn cattlecleat_sync_ip(
 }
 
 // Reads back the newest frame's ip, its start (the offset) and the current instance; the registers are in the state. 9, 4, 8.
-#[unsafe(no_mangle)]
-pub extern "C" fn cattlecleat_restore_frame(
-    state: &[u64; 8],
-    words: &[u64],
-    cells: &[u64],
-) -> CFrame
+pub fn cattlecleat_restore_frame(state: &[u64; 8], words: &[u64], cells: &[u64]) -> CFrame
     ensures { placed result state.now words.now cells.now
         ≡ placed_after frame_told same_after state.now
         (answered_in state.now words.now cells.now (Traced Restore)) }
@@ -45,8 +34,7 @@ pub extern "C" fn cattlecleat_restore_frame(
 }
 
 // Writes one cell at the newest frame's start plus `head`; the offset is its index. 9, 4, 7.
-#[unsafe(no_mangle)]
-pub extern "C" fn cattlecleat_set(
+pub fn cattlecleat_set(
     state: &[u64; 8],
     words: &[u64],
     cells: &mut [u64],
@@ -63,8 +51,7 @@ pub extern "C" fn cattlecleat_set(
 }
 
 // Empties frames, `len`, instance and registers. Only 9 refuses it.
-#[unsafe(no_mangle)]
-pub extern "C" fn cattlecleat_reset(state: &mut [u64; 11], words: &[u64], cells: &[u64]) -> u64
+pub fn cattlecleat_reset(state: &mut [u64; 11], words: &[u64], cells: &[u64]) -> u64
     ensures { placed result state.new words.now cells.now
         ≡ placed_after number_told emptied_after state.old
         (answered_in state.old words.now cells.now (Traced Reset)) }
@@ -76,8 +63,7 @@ pub extern "C" fn cattlecleat_reset(state: &mut [u64; 11], words: &[u64], cells:
 }
 
 // Stores all three registers, bit for bit. Only 9 refuses it.
-#[unsafe(no_mangle)]
-pub extern "C" fn cattlecleat_sync_registers_in_place(
+pub fn cattlecleat_sync_registers_in_place(
     state: &mut [u64; 11],
     words: &[u64],
     cells: &[u64],

@@ -27,13 +27,7 @@ pub struct CFed {
 }
 
 // The next block of a trace. 22 for a nonempty one after an end without a stop.
-#[unsafe(no_mangle)]
-pub extern "C" fn cattlecleat_feed(
-    t: CTape,
-    words: &mut [u64],
-    cells: &mut [u64],
-    block: &[u8],
-) -> CFed
+pub fn cattlecleat_feed(t: CTape, words: &mut [u64], cells: &mut [u64], block: &[u8]) -> CFed
     ensures { fed_told result words.new cells.new
         ≡ feeding_back t (feeding (taping_from t words.old cells.old) block.now) }
 {
@@ -47,8 +41,7 @@ pub extern "C" fn cattlecleat_feed(
 }
 
 // The trace has ended.
-#[unsafe(no_mangle)]
-pub extern "C" fn cattlecleat_finish(t: CTape, words: &mut [u64], cells: &mut [u64]) -> CTape
+pub fn cattlecleat_finish(t: CTape, words: &mut [u64], cells: &mut [u64]) -> CTape
     ensures { tape_told result words.new cells.new
         ≡ taping_back t (end_told (taping_from t words.old cells.old)) }
 {

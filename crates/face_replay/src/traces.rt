@@ -22,13 +22,7 @@ pub struct CRun {
 }
 
 // Replays a whole trace, or up to where the fuel does not cover a record. What it leaves as it was comes back number for number.
-#[unsafe(no_mangle)]
-pub extern "C" fn cattlecleat_replay(
-    run: CRun,
-    words: &mut [u64],
-    cells: &mut [u64],
-    trace: &[u8],
-) -> CRun
+pub fn cattlecleat_replay(run: CRun, words: &mut [u64], cells: &mut [u64], trace: &[u8]) -> CRun
     ensures { run_told result words.new cells.new
         ≡ running_back run (replayed (running_from run words.old cells.old) trace.now) }
 {

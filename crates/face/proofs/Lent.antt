@@ -49,6 +49,6 @@ module _ (w : World) (frame : HostFrame) (j : Judgement) (shows : shown_judgemen
   accepted_told r accepts tells = tells ∙ told_accepted w frame r (ap shown_judgement (sym accepts) ∙ shows)
 
 -- ---- of a state and a frame that numbers say
-pub part_at : (s s' : State) → s ≡ s' → (words cells : List ℕ) (f f' : HostFrame) → f ≡ f'
+pub part_told_at : (s s' : State) → s ≡ s' → (words cells : List ℕ) (f f' : HostFrame) → f ≡ f'
     → part_told (world_of s words cells) f ≡ part_told (world_of s' words cells) f'
-part_at s s' read words cells f f' meant = λ i. part_told (world_of (read i) words cells) (meant i)
+part_told_at s s' read words cells f f' meant = λ i. part_told (world_of (read i) words cells) (meant i)

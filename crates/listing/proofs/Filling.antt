@@ -33,11 +33,11 @@ block_left v ds used out = block_of (ran_all v ds) (used + length (lines_text v 
 
 -- ---- a record
 -- a text in front of the rest
-left_behind : (v : Running) (ds : List Decoded) (text : List ℕ) (used : ℕ) (out : List ℕ)
+text_left_behind : (v : Running) (ds : List Decoded) (text : List ℕ) (used : ℕ) (out : List ℕ)
     → block_of (ran_all v ds) (used + length (text ++ lines_text v ds)) (sets out used (text ++ lines_text v ds))
     ≡ block_left v ds (used + length text) (sets out used text)
 unfolding block_left
-left_behind v ds text used out =
+text_left_behind v ds text used out =
     let more = length-append text (lines_text v ds) in
     let place : used + length (text ++ lines_text v ds) ≡ used + length text + length (lines_text v ds) = omega arith in
     λ i. block_of (ran_all v ds) (place i) (sets_append text (lines_text v ds) out used i)
@@ -53,7 +53,7 @@ record_left : (v : Running) (d : Decoded) (ds : List Decoded) (used : ℕ) (out 
 unfolding block_left ran_all
 record_left v d ds used out =
     ap (λ text. block_of (ran_all (ran v d).run ds) (used + length text) (sets out used text)) (text_first v d ds)
-    ∙ left_behind (ran v d).run ds (text_of (said_of (lines_by v d))) used out
+    ∙ text_left_behind (ran v d).run ds (text_of (said_of (lines_by v d))) used out
 
 -- what a record's lines are as text: none where the run has stopped, else its line
 module _ (v : Running) (d : Decoded) where

@@ -42,7 +42,7 @@ one_failed false b e f = e
 module _ (t : Taping) (block out : List ℕ) where
   pub data FedVerdict : ShownLines → ShownFed → Type 0 where
     refused_22 : (t.ended ≡ true) → FedVerdict (lines_refused t out 22) (fed_with t 22)
-    no_room : block_rests t block ≡ false → length out < block_lines_room t block → FedVerdict (lines_refused t out 19) (fed_with (fed t block) 0)
+    lacks_room : block_rests t block ≡ false → length out < block_lines_room t block → FedVerdict (lines_refused t out 19) (fed_with (fed t block) 0)
     listed : (block_rests t block ≡ false → block_lines_room t block ≤ length out)
         → FedVerdict (lines_done (fed t block) (lines_fed t block) out) (fed_with (fed t block) 0)
 
@@ -59,7 +59,7 @@ module _ (t : Taping) (block out : List ℕ) where
           refused_22 (both_true t.ended (not (is_empty block)) (both_true (not (has_stopped t.run)) (t.ended && not (is_empty block)) e).1).0
       by false e true f =
           let both = both_true (not (block_rests t block)) (ltb (length out) (block_lines_room t block)) f in
-          no_room (not-true (block_rests t block) both.0) (ltb-true (length out) (block_lines_room t block) both.1)
+          lacks_room (not-true (block_rests t block) both.0) (ltb-true (length out) (block_lines_room t block) both.1)
       by false e false f =
           listed (λ g. ltb-false (length out) (block_lines_room t block) (one_failed (block_rests t block) (ltb (length out) (block_lines_room t block)) f g))
 
@@ -93,23 +93,23 @@ module _ (t : Taping) (block out : List ℕ) where
 
   pub feed_texts : {s : ShownLines} {g : ShownFed} → FedVerdict s g → s.number ≡ 0 → (s.tape ≡ fed t block) × (take s.used s.out ≡ lines_fed t block)
   feed_texts (refused_22 e) z = absurd (omega arith)
-  feed_texts (no_room e h) z = absurd (omega arith)
+  feed_texts (lacks_room e h) z = absurd (omega arith)
   feed_texts (listed room) z = (refl, sets_there (lines_fed t block) out 0 (let fits = text_fits room in omega arith))
 
   -- done or refused with 22, it is what is answered without a listing
   pub feed_same : {s : ShownLines} {g : ShownFed} → FedVerdict s g → (s.number ≡ 19 → ⊥) → fed_with s.tape s.number ≡ g
   feed_same (refused_22 e) n = refl
-  feed_same (no_room e h) n = absurd (n refl)
+  feed_same (lacks_room e h) n = absurd (n refl)
   feed_same (listed room) n = refl
 
   pub feed_unmoved : {s : ShownLines} {g : ShownFed} → FedVerdict s g → 2 ≤ s.number → (s.tape ≡ t) × (s.out ≡ out)
   feed_unmoved (refused_22 e) two = (refl, refl)
-  feed_unmoved (no_room e h) two = (refl, refl)
+  feed_unmoved (lacks_room e h) two = (refl, refl)
   feed_unmoved (listed room) two = absurd (omega arith)
 
   pub feed_19 : {s : ShownLines} {g : ShownFed} → FedVerdict s g → s.number ≡ 19 ↔ ((block_rests t block ≡ false) × (length out < block_lines_room t block))
   feed_19 (refused_22 e) = (λ n. absurd (omega arith), λ h. absurd (ended_rests e h.0))
-  feed_19 (no_room e h) = (λ n. (e, h), λ x. refl)
+  feed_19 (lacks_room e h) = (λ n. (e, h), λ x. refl)
   feed_19 (listed room) = (λ n. absurd (omega arith), λ h. let enough = room h.0 in let short = h.1 in absurd (omega arith))
 
 -- ---- the end

@@ -35,8 +35,8 @@ went_joins v a b whole =
     let ran = ap (replayed v) (whole_joins a b whole) ∙ replay_joins v a (whole_in b) whole in
     λ i. held_after (ran i) (rest_joins a b whole i)
 
-went_on : (v : Running) (a b : List ℕ) → went_through v (a ++ b) ≡ went_through (replayed v (whole_in a)) (rest_in a ++ b)
-went_on v a b =
+went_on_lem : (v : Running) (a b : List ℕ) → went_through v (a ++ b) ≡ went_through (replayed v (whole_in a)) (rest_in a ++ b)
+went_on_lem v a b =
     ap (λ l. went_through v (l ++ b)) (sym (whole_rest a)) ∙ ap (went_through v) (append_assoc (whole_in a) (rest_in a) b)
     ∙ went_joins v (whole_in a) (rest_in a ++ b) (whole_is a)
 
@@ -139,8 +139,8 @@ fed_joins v a b = by (has_stopped (replayed v (whole_in a))) refl
     by : (s : Bool) → has_stopped (replayed v (whole_in a)) ≡ s → fed (went_through v a) b ≡ went_through v (a ++ b)
     by true e =
         fed_rests (went_through v a) b (stopped_there v a e) ∙ went_dropped v a e
-        ∙ sym (went_stopped_lem (replayed v (whole_in a)) e (rest_in a ++ b)) ∙ sym (went_on v a b)
-    by false e = ap (λ t. fed t b) (went_holds v a e) ∙ fed_behind (replayed v (whole_in a)) (rest_in a) b e (rest_short a) ∙ sym (went_on v a b)
+        ∙ sym (went_stopped_lem (replayed v (whole_in a)) e (rest_in a ++ b)) ∙ sym (went_on_lem v a b)
+    by false e = ap (λ t. fed t b) (went_holds v a e) ∙ fed_behind (replayed v (whole_in a)) (rest_in a) b e (rest_short a) ∙ sym (went_on_lem v a b)
 
 pub all_joins : (v : Running) (a : List ℕ) (bs : List (List ℕ)) → fed_all (went_through v a) bs ≡ went_through v (a ++ joined bs)
 unfolding fed_all

@@ -9,9 +9,9 @@ equals_itself nan h = absurd (true≢false h)
 equals_itself (inf s) h = refl
 equals_itself (fin s m e) h = refl
 
-pub is_none : (b : Bool) → b ≡ false → T (not b)
-is_none false e = tt
-is_none true e = absurd (true≢false e)
+pub false_not : (b : Bool) → b ≡ false → T (not b)
+false_not false e = tt
+false_not true e = absurd (true≢false e)
 
 pub within_32 : (n : ℕ) → n % 2147483648 ≤ 2139095040 → nan_bits binary32 n ≡ false
 within_32 n h = nan_bits_above binary32 n ∙ le-ltb 2139095040 (n % 2147483648) h

@@ -23,12 +23,10 @@ fn cuts(rt: &(impl Files + Print)) -> io::Result<()> {
 }
 
 fn cut_each(rt: &impl Print, bytes: &[u8]) -> io::Result<()> {
-    let mut k = 0;
-    while k <= bytes.len() {
+    for k in 0..=bytes.len() {
         say::title(rt, "short.trace", 1000000)?;
         let script = [k, FOUR, bytes.len(), FOUR, END, FOUR];
         play(rt, bytes, 1000000, &script)?;
-        k += 1;
     }
     Ok(())
 }

@@ -1,6 +1,5 @@
 // A listing in parts of three records, on document 01's stack for the program.
 use crate::say;
-use crate::say::least;
 use listing::{list_block, list_end};
 use replay::{Run, start};
 use stack::open;
@@ -38,13 +37,10 @@ fn list_parts(
     text: &mut [u8],
 ) -> io::Result<Run> {
     let mut so_far = run;
-    let mut at = 0;
-    while at < bytes.len() {
-        let end = at + least(PART, bytes.len() - at);
-        let listed = list_block(so_far, words, cells, &bytes[at..end], text);
+    for part in bytes.chunks(PART) {
+        let listed = list_block(so_far, words, cells, part, text);
         say::text(rt, text, listed.used)?;
         so_far = listed.run;
-        at = end;
     }
     Ok(so_far)
 }

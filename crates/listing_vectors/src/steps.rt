@@ -59,11 +59,9 @@ fn play_all(
 ) -> io::Result<Tape> {
     let mut so_far = tape;
     let mut at = 0;
-    let mut i = 0;
-    while i < script.len() / 2 {
+    for i in 0..script.len() / 2 {
         let n = script[2 * i];
         let room = script[2 * i + 1];
-        i += 1;
         let next = step(rt, so_far, words, cells, bytes, at, n, text, room)?;
         so_far = next.tape;
         at = next.at;

@@ -12,14 +12,14 @@ mod word;
 use std::process::ExitCode;
 use word::Word;
 
-// Status 1 where something went wrong, which was said on standard error, or where the help could not be written.
+// Status 1 where something could not be read or written. What went wrong is said on standard error, an unknown word too.
 fn main(rt: HostRuntime) -> ExitCode {
     let is_well = match word::asked(&rt) {
         Word::Replay => replaying::run(&rt),
         Word::Help => say::help(&rt).is_ok(),
         Word::Unknown => {
             say::unknown(&rt);
-            false
+            true
         }
     };
     if is_well {

@@ -27,8 +27,8 @@ const FAULTS: [u8; 224] =
 
 const NAME_WIDTH: usize = 8;
 
-// No longer path names a file.
-const PATH_ROOM: usize = 4096;
+// No longer name is said.
+const NAME_ROOM: usize = 64;
 
 fn text(rt: &impl Print, s: &[u8]) -> io::Result<()> {
     rt.write_all(s)
@@ -41,7 +41,7 @@ fn number(rt: &impl Print, s: &[u8], n: u64) -> io::Result<()> {
 
 // A file is an argument of the program.
 fn file_name(rt: &(impl Env + Print), file: usize) -> io::Result<()> {
-    let mut name = [0u8; PATH_ROOM];
+    let mut name = [0u8; NAME_ROOM];
     match rt.arg(file, &mut name) {
         Ok(n) => text(rt, &name[..n]),
         Err(_) => Ok(()),

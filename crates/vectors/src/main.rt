@@ -2,6 +2,7 @@
 #![tactic(auto)]
 
 ghost use Rattle.std.specs.Prelude.{◌≤◌};
+ghost use Rattle.std.specs.Io.{ReadsAtMost};
 
 mod asking;
 mod leaves;
@@ -14,9 +15,10 @@ mod typed;
 mod words;
 
 use line::run_line;
-use std::io::{Read, Take};
+use std::env::FillError;
+use std::io::Read;
 use std::rt::{Env, Files};
-use std::{env, fs, io};
+use std::{fs, io};
 use vector_text::counts::{Counts, a_bad_line_more, joined, none_of};
 use vector_text::course::{Course, faulty, fresh_course, moved_on};
 use vector_text::reading::read_line;
@@ -31,57 +33,89 @@ const TRACE: usize = 1280;
 
 const TOKENS: usize = 512;
 
-// The bytes of a file that is too long.
+// The bytes of a file that is too long, and of the longest name of a file.
 const TEXT: usize = 65_536;
 
+const NAME: usize = 64;
+
 fn main(rt: HostRuntime) -> io::Result<()> {
-    run_all(&rt)
+    let mut text = [0u8; TEXT];
+    run_all(&rt, &mut text)
 }
 
 // Each argument is a file of less than 65,536 bytes.
-fn run_all(rt: &(impl Files + Env + Print + Alloc)) -> io::Result<()> {
+fn run_all(rt: &(impl Files + Env + Print), text: &mut [u8]) -> io::Result<()> {
     let mut total = none_of(0);
     let mut files = 0;
-    for (i, name) in env::args(rt)?.enumerate().skip(1) {
-        total = joined(total, run_named(rt, i, name.as_str())?);
+    for i in 1..usize::MAX {
+        if !is_given(rt, i) {
+            break;
+        }
+        total = joined(total, run_named(rt, i, text)?);
         files = std::num::wrapping_add_u64(files, 1);
     }
     say::total(rt, files, total)
 }
 
-fn run_named(
-    rt: &(impl Files + Env + Print + Alloc),
-    file: usize,
-    name: &str,
-) -> io::Result<Counts> {
-    let Ok(mut opened) = open_named(rt, name) else {
+fn is_given(rt: &impl Env, file: usize) -> bool {
+    let mut name = [0u8; NAME];
+    match rt.arg(file, &mut name) {
+        Err(FillError::NotPresent) => false,
+        Ok(_) | Err(FillError::TooLong) => true,
+    }
+}
+
+fn run_named(rt: &(impl Files + Env + Print), file: usize, text: &mut [u8]) -> io::Result<Counts> {
+    let Ok(mut opened) = open_named(rt, file) else {
         say::missing(rt, file)?;
         return Ok(a_bad_line_more(none_of(file)));
     };
-    let mut text = Vec::new(rt.alloc());
-    opened.read_to_end(&mut text)?;
-    if text.len() == TEXT {
+    let n = read_full(&mut opened, text)?;
+    if n == text.len() {
         say::too_long(rt, file)?;
         return Ok(a_bad_line_more(none_of(file)));
     }
-    run_file(rt, file, text.as_slice())
+    run_file(rt, file, &text[..n])
 }
 
-// What is read of it ends where it is too long.
-fn open_named<R: Files>(rt: &R, name: &str) -> io::Result<Take<R::File>> {
-    Ok(fs::open(rt, name)?.take(TEXT as u64))
+// A longer name, or one that is no text, is no file's.
+fn open_named<R: Files + Env>(rt: &R, file: usize) -> io::Result<R::File> {
+    let mut name = [0u8; NAME];
+    let n = match rt.arg(file, &mut name) {
+        Ok(n) => n,
+        Err(_) => 0,
+    };
+    match str::from_utf8(&name[..n]) {
+        Ok(path) => fs::open(rt, path),
+        Err(_) => fs::open(rt, ""),
+    }
 }
 
-fn run_file(rt: &(impl Env + Print + Alloc), file: usize, text: &[u8]) -> io::Result<Counts> {
-    let mut words = vec![in rt.alloc(); 0u64; WORDS]?;
-    let mut cells = vec![in rt.alloc(); 0u64; CELLS]?;
+// As many bytes as there are, or as there is room for.
+fn read_full(file: &mut impl Read, bytes: &mut [u8]) -> io::Result<usize>
+    ensures { ReadsAtMost result bytes.new }
+{
+    let mut done = 0;
+    while done < bytes.len() {
+        let more = file.read(&mut bytes[done..])?;
+        if more == 0 {
+            break;
+        }
+        done += more;
+    }
+    Ok(done)
+}
+
+fn run_file(rt: &(impl Env + Print), file: usize, text: &[u8]) -> io::Result<Counts> {
+    let mut words = [0u64; WORDS];
+    let mut cells = [0u64; CELLS];
     let mut trace = [0u8; TRACE];
     let mut tokens = [0u64; TOKENS];
     let done = run_text(
         rt,
         fresh_course(file),
-        words.as_mut_slice(),
-        cells.as_mut_slice(),
+        &mut words,
+        &mut cells,
         &mut trace,
         &mut tokens,
         text,

@@ -1,4 +1,7 @@
-// Whole traces replayed, and traces in blocks.
+// A module of the archive that a host in C or Rust links: whole traces replayed, and traces in blocks. Each function is face_replay's, under its own
+// name, with the clauses that it has there, and a body that is one call of it. include/cattlecleat.h says what each means.
+#![tactic(auto)]
+
 ghost use Rattle.std.specs.Prelude.{◌≡◌};
 ghost use Rattle.replay.specs.Running.{replayed};
 ghost use Rattle.face_replay.specs.Runs.{run_told, running_back, running_from};

@@ -1,4 +1,7 @@
-// The leaves: registers, aligned addresses, the done slot, single records.
+// A module of the archive that a host in C or Rust links: registers, aligned addresses, the done slot and single records. Each function is face_leaves',
+// under its own name, with the clauses that it has there, and a body that is one call of it. include/cattlecleat.h says what each means.
+#![tactic(auto)]
+
 ghost use Rattle.std.specs.Prelude.{◌≡◌};
 ghost use Rattle.regs.specs.Align.{aligned};
 ghost use Rattle.face_leaves.specs.Types.{register_for, number_for};

@@ -1,4 +1,7 @@
-// A stack opened, and requests with the state by value.
+// A module of the archive that a host in C or Rust links: a stack opened, and requests with the state by value. Each function is face_ask's, under its own
+// name, with the clauses that it has there, and a body that is one call of it. include/cattlecleat.h says what each means.
+#![tactic(auto)]
+
 ghost use Rattle.std.specs.Prelude.{◌≡◌, length};
 ghost use Rattle.rules.specs.declared.Asked.TheVariants.{SyncRegs};
 ghost use Rattle.rules.specs.World.{world_of};

@@ -1,4 +1,7 @@
-// Requests with the state in place, as eight words, or eleven with its registers.
+// A module of the archive that a host in C or Rust links: requests with the state in place, as eight words, or eleven with its registers. Each function is
+// face_place's, under its own name, with the clauses that it has there, and a body that is one call of it. include/cattlecleat.h says what each means.
+#![tactic(auto)]
+
 ghost use Rattle.std.specs.Prelude.{◌≡◌};
 ghost use Rattle.rules.specs.declared.Request.TheVariants.{Push, Pop, Replace, Host, ReturnHost, Sync, Restore, Reset, Set};
 ghost use Rattle.rules.specs.declared.Asked.TheVariants.{Traced, SyncRegs};

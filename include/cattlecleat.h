@@ -1,4 +1,4 @@
-/* Cattlecleat: the C face of the proved call stack. For x86-64 (x86-64-v2 and above) with the System V calling convention only. C99, and C++ as well.
+/* Cattlecleat: the C face of the proved call stack. For x86-64-v2 and above with the System V calling convention only. C99, and C++ as well.
  * `./cattlecleat archive`, in the repository, proves the archive and writes target/lib/libcattlecleat.a, with this header beside it; a
  * program links it and the C library alone: cc -I target/lib program.c target/lib/libcattlecleat.a
  * The words and numbers are those of document 01, 'The rules and what will be built'; 22 is document 02's, 'Later customer requests'.

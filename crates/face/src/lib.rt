@@ -1,5 +1,5 @@
 // What the crates of the C face share: a state, a request and a host's part as numbers, how they read and how they are told. No bool and no enum crosses
-// to C, and all numbers read as something. Nothing is exported here: what a host links is the crates face_.., each a module of the archive.
+// to C, and all numbers read as something. Nothing is exported here: what a host links is the crates face_.._c, each a module of the archive.
 #![tactic(auto)]
 
 mod parts;

@@ -7,7 +7,7 @@ use std::process::{Command, Stdio};
 
 const SOURCES: [&str; 2] = ["floor", "replay"];
 
-/// As the archive is compiled.
+/// As the archive was compiled when the times of docs/PERFORMANCE.md were taken; today it is for x86-64-v2.
 const FLAGS: [&str; 4] = ["-std=c99", "-O3", "-march=x86-64", "-fPIC"];
 const WARNINGS: [&str; 4] = ["-Wall", "-Wextra", "-Wpedantic", "-Werror"];
 

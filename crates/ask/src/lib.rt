@@ -13,6 +13,7 @@ use stack_calls::{pop_frame, push_frame, replace_frame};
 use stack_hosts::{prepare_host_frame, return_prepare_host_frame};
 
 // Asks for a request: its refusal, or its step.
+// The match is the table: each kind has its own function and arguments.
 pub fn ask(s: State, words: &mut [u64], cells: &mut [u64], q: Request) -> Outcome
     ensures { shown_outcome result words.new cells.new
         ≡ answered (world_of s words.old cells.old) (Traced q) }

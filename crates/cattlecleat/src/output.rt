@@ -5,7 +5,7 @@ ghost use Rattle.std.specs.Io.KnownBytes.{Appends};
 use std::io;
 use std::io::{ErrorKind, Write};
 
-// Where a write fails, the text is written up to there.
+// Where a write fails, the text is written up to there: std's `write_all` says nothing of that, so the loop stands here.
 pub fn write_text<W: Write>(output: &mut W, text: &[u8]) -> io::Result<()>
     ensures ok { OnOk result (Appends (W.contents output.old) (W.contents output.new) text.now) }
     ensures err { OnErr result ((n : ℕ) × Appends (W.contents output.old) (W.contents output.new) (take n text.now)) }

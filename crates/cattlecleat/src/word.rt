@@ -1,6 +1,7 @@
 // The sub-command: the program's first argument. With none it replays.
 use std::env::{Env, FillError};
 
+// Three ways to go on, none of them an error.
 #[derive(Clone, Copy)]
 pub enum Word {
     Replay,

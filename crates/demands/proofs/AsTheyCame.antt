@@ -5,9 +5,11 @@ use mathlib.Core.Logic.{◌↔◌}
 use Prim.Native.Nat.{ℕ, ◌≤◌}
 use lib.Dec.{lit≤}
 use borrow.Author.Tests.{le-leb}
+use Rattle.std.specs.Prelude.{Ok, Err}
 use Rattle.choice.specs.Choose.{choose}
 use Rattle.choice.specs.Tests.{FirstIs, there}
 use Rattle.regs.specs.Registers.{zero_registers}
+use Rattle.record.specs.Reading.{bad_record}
 use Rattle.rules.specs.declared.State.{State}
 use Rattle.rules.specs.declared.Request.TheVariants.{Push, Pop, Replace, Host, ReturnHost, Sync, Restore, Reset, Set}
 use Rattle.rules.specs.declared.Asked.{Asked}
@@ -20,8 +22,7 @@ use Rattle.rules.specs.Hosts.{host_tests, return_host_tests, part_tests}
 use Rattle.rules.specs.Syncs.{sync_tests, restore_tests, reset_tests, set_tests, register_tests}
 use Rattle.rules.specs.Rules.{tests_of, answered}
 use Rattle.rules.proofs.Verdicts.{exactly_then, refused_unchanged}
-use Rattle.request.specs.declared.Decoded.{Decoded}
-use Rattle.request.specs.declared.Decoded.TheVariants.{Asks, Bad}
+use Rattle.request.specs.Requests.{Decoded}
 use Rattle.replay.specs.Running.{answer_to}
 use Rattle.face.specs.declared.state.CState.{CState}
 use Rattle.face.specs.Requests.{request_from}
@@ -59,9 +60,9 @@ no_ten w (Traced (Set head cell)) (there a (there b (there c p))) = no_test_left
 no_ten w (SyncRegs regs) (there a p) = no_test_left p
 no_ten w (HostPart frame) (there a (there b p)) = no_test_left p
 
-ten_said : (w : World) (d : Decoded) → (answer_to w d).shown.number ≡ 10 ↔ d ≡ Bad
-ten_said w (Asks q) = (λ e. absurd (no_ten w (Traced q) ((exactly_then w (Traced q) 10 (lit≤ tt)).0 e)), λ e. ap (λ d. (answer_to w d).shown.number) e)
-ten_said w Bad = (λ e. refl, λ e. refl)
+ten_said : (w : World) (d : Decoded) → (answer_to w d).shown.number ≡ 10 ↔ d ≡ Err bad_record
+ten_said w (Ok q) = (λ e. absurd (no_ten w (Traced q) ((exactly_then w (Traced q) 10 (lit≤ tt)).0 e)), λ e. ap (λ d. (answer_to w d).shown.number) e)
+ten_said w (Err e) = (λ e. refl, λ e. refl)
 
 pub numbers_asked : NumbersAsked
 numbers_asked κ a r e p =
@@ -81,8 +82,8 @@ as_it_came c t r words cells p two =
     ap (λ (a : ToldAnswer). a.answer.state) p ∙ came_back c t.shown.number t.world.state (rw number at two)
 
 refused_same : (w : World) (d : Decoded) → 2 ≤ (answer_to w d).shown.number → (answer_to w d).world ≡ w
-refused_same w (Asks q) two = (refused_unchanged w (Traced q) two).0
-refused_same w Bad two = refl
+refused_same w (Ok q) two = (refused_unchanged w (Traced q) two).0
+refused_same w (Err e) two = refl
 
 pub states_as_they_came : StatesAsTheyCame
 states_as_they_came = (

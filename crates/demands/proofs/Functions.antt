@@ -4,13 +4,13 @@ use mathlib.Core.Path.{refl}
 use denote.Ref.{at_last}
 use denote.Triple.Clauses.{at_exit}
 use Rattle.choice.specs.Once.{beside}
-use Rattle.given.proofs.Settled as given_all
 use Rattle.regs.proofs.Settled as regs_all
 use Rattle.done.proofs.Settled as done_all
 use Rattle.frames.proofs.Settled as frames_all
 use Rattle.runs.proofs.Settled as runs_all
 use Rattle.cells.proofs.Settled as cells_all
 use Rattle.record.proofs.Settled as record_all
+use Rattle.rules.proofs.Settled as rules_all
 use Rattle.request.proofs.Settled as request_all
 use Rattle.reader.proofs.Settled as reader_all
 use Rattle.stack.proofs.Settled as stack_all
@@ -26,20 +26,26 @@ use Rattle.face_leaves.proofs.Settled as face_leaves_all
 use Rattle.face_place.proofs.Settled as face_place_all
 use Rattle.face_ask.proofs.Settled as face_ask_all
 use Rattle.face_replay.proofs.Settled as face_replay_all
-use Rattle.given.specs.contracts.given_if as given_given_if
-use Rattle.given.specs.contracts.given_number as given_given_number
-use Rattle.given.specs.contracts.is_given as given_is_given
-use Rattle.given.specs.contracts.or_else as given_or_else
+use Rattle.regs.specs.contracts.align.U64FromNoAddress.from as regs_align_U64FromNoAddress_from
 use Rattle.regs.specs.contracts.align_relative_to as regs_align_relative_to
-use Rattle.regs.specs.contracts.from_bool as regs_from_bool
-use Rattle.regs.specs.contracts.from_i16 as regs_from_i16
-use Rattle.regs.specs.contracts.from_i32 as regs_from_i32
-use Rattle.regs.specs.contracts.from_i64 as regs_from_i64
-use Rattle.regs.specs.contracts.from_i8 as regs_from_i8
-use Rattle.regs.specs.contracts.from_u16 as regs_from_u16
-use Rattle.regs.specs.contracts.from_u32 as regs_from_u32
-use Rattle.regs.specs.contracts.from_u64 as regs_from_u64
-use Rattle.regs.specs.contracts.from_u8 as regs_from_u8
+use Rattle.regs.specs.contracts.convert.BoolInRegister.from_register as regs_convert_BoolInRegister_from_register
+use Rattle.regs.specs.contracts.convert.BoolInRegister.into_register as regs_convert_BoolInRegister_into_register
+use Rattle.regs.specs.contracts.convert.I16InRegister.from_register as regs_convert_I16InRegister_from_register
+use Rattle.regs.specs.contracts.convert.I16InRegister.into_register as regs_convert_I16InRegister_into_register
+use Rattle.regs.specs.contracts.convert.I32InRegister.from_register as regs_convert_I32InRegister_from_register
+use Rattle.regs.specs.contracts.convert.I32InRegister.into_register as regs_convert_I32InRegister_into_register
+use Rattle.regs.specs.contracts.convert.I64InRegister.from_register as regs_convert_I64InRegister_from_register
+use Rattle.regs.specs.contracts.convert.I64InRegister.into_register as regs_convert_I64InRegister_into_register
+use Rattle.regs.specs.contracts.convert.I8InRegister.from_register as regs_convert_I8InRegister_from_register
+use Rattle.regs.specs.contracts.convert.I8InRegister.into_register as regs_convert_I8InRegister_into_register
+use Rattle.regs.specs.contracts.convert.U16InRegister.from_register as regs_convert_U16InRegister_from_register
+use Rattle.regs.specs.contracts.convert.U16InRegister.into_register as regs_convert_U16InRegister_into_register
+use Rattle.regs.specs.contracts.convert.U32InRegister.from_register as regs_convert_U32InRegister_from_register
+use Rattle.regs.specs.contracts.convert.U32InRegister.into_register as regs_convert_U32InRegister_into_register
+use Rattle.regs.specs.contracts.convert.U64InRegister.from_register as regs_convert_U64InRegister_from_register
+use Rattle.regs.specs.contracts.convert.U64InRegister.into_register as regs_convert_U64InRegister_into_register
+use Rattle.regs.specs.contracts.convert.U8InRegister.from_register as regs_convert_U8InRegister_from_register
+use Rattle.regs.specs.contracts.convert.U8InRegister.into_register as regs_convert_U8InRegister_into_register
 use Rattle.regs.specs.contracts.registers.Registers.read_freg32 as regs_registers_Registers_read_freg32
 use Rattle.regs.specs.contracts.registers.Registers.read_freg64 as regs_registers_Registers_read_freg64
 use Rattle.regs.specs.contracts.registers.Registers.read_ireg as regs_registers_Registers_read_ireg
@@ -48,18 +54,11 @@ use Rattle.regs.specs.contracts.registers.Registers.with_freg32 as regs_register
 use Rattle.regs.specs.contracts.registers.Registers.with_freg64 as regs_registers_Registers_with_freg64
 use Rattle.regs.specs.contracts.registers.Registers.with_ireg as regs_registers_Registers_with_ireg
 use Rattle.regs.specs.contracts.registers.Registers.zeroed as regs_registers_Registers_zeroed
-use Rattle.regs.specs.contracts.to_bool as regs_to_bool
-use Rattle.regs.specs.contracts.to_i16 as regs_to_i16
-use Rattle.regs.specs.contracts.to_i32 as regs_to_i32
-use Rattle.regs.specs.contracts.to_i64 as regs_to_i64
-use Rattle.regs.specs.contracts.to_i8 as regs_to_i8
-use Rattle.regs.specs.contracts.to_u16 as regs_to_u16
-use Rattle.regs.specs.contracts.to_u32 as regs_to_u32
-use Rattle.regs.specs.contracts.to_u64 as regs_to_u64
-use Rattle.regs.specs.contracts.to_u8 as regs_to_u8
 use Rattle.done.specs.contracts.DoneSlot.done_with as done_DoneSlot_done_with
 use Rattle.done.specs.contracts.DoneSlot.empty as done_DoneSlot_empty
 use Rattle.done.specs.contracts.DoneSlot.take_done_reason as done_DoneSlot_take_done_reason
+use Rattle.done.specs.contracts.U64FromAlreadyFilled.from as done_U64FromAlreadyFilled_from
+use Rattle.done.specs.contracts.U64FromNothingToTake.from as done_U64FromNothingToTake_from
 use Rattle.frames.specs.contracts.carried as frames_carried
 use Rattle.frames.specs.contracts.debt_of as frames_debt_of
 use Rattle.frames.specs.contracts.is_broken as frames_is_broken
@@ -89,6 +88,8 @@ use Rattle.record.specs.contracts.keeps_row as record_keeps_row
 use Rattle.record.specs.contracts.read_fields as record_read_fields
 use Rattle.record.specs.contracts.read_record as record_read_record
 use Rattle.record.specs.contracts.write_record as record_write_record
+use Rattle.rules.specs.contracts.RefusalFromGrowthError.from as rules_RefusalFromGrowthError_from
+use Rattle.rules.specs.contracts.U64FromRefusal.from as rules_U64FromRefusal_from
 use Rattle.request.specs.contracts.host_in as request_host_in
 use Rattle.request.specs.contracts.next_request as request_next_request
 use Rattle.request.specs.contracts.place_after as request_place_after
@@ -98,6 +99,7 @@ use Rattle.request.specs.contracts.replace_in as request_replace_in
 use Rattle.request.specs.contracts.request_of as request_request_of
 use Rattle.request.specs.contracts.return_host_in as request_return_host_in
 use Rattle.request.specs.contracts.write_request as request_write_request
+use Rattle.reader.specs.contracts.ReaderIterator.next as reader_ReaderIterator_next
 use Rattle.reader.specs.contracts.advance as reader_advance
 use Rattle.reader.specs.contracts.hand_out as reader_hand_out
 use Rattle.reader.specs.contracts.next_two as reader_next_two
@@ -122,7 +124,6 @@ use Rattle.stack.specs.contracts.judge_sync_regs as stack_judge_sync_regs
 use Rattle.stack.specs.contracts.moved_state as stack_moved_state
 use Rattle.stack.specs.contracts.no_host as stack_no_host
 use Rattle.stack.specs.contracts.open as stack_open
-use Rattle.stack.specs.contracts.refusal_number as stack_refusal_number
 use Rattle.stack.specs.contracts.refused as stack_refused
 use Rattle.stack.specs.contracts.reset as stack_reset
 use Rattle.stack.specs.contracts.restore_frame as stack_restore_frame
@@ -167,20 +168,27 @@ use Rattle.replay.specs.contracts.run_next as replay_run_next
 use Rattle.replay.specs.contracts.run_record as replay_run_record
 use Rattle.replay.specs.contracts.start as replay_start
 use Rattle.tape.specs.contracts.begin as tape_begin
+use Rattle.tape.specs.contracts.cut.Cut.first_count as tape_cut_Cut_first_count
 use Rattle.tape.specs.contracts.cut_block as tape_cut_block
 use Rattle.tape.specs.contracts.feed as tape_feed
 use Rattle.tape.specs.contracts.finish as tape_finish
 use Rattle.tape.specs.contracts.held_count as tape_held_count
 use Rattle.tape.specs.contracts.hold as tape_hold
+use Rattle.tape.specs.contracts.tape.Tape.rests as tape_tape_Tape_rests
 use Rattle.listing.specs.contracts.list_block as listing_list_block
 use Rattle.listing.specs.contracts.list_end as listing_list_end
 use Rattle.listing.specs.contracts.list_feed as listing_list_feed
 use Rattle.listing.specs.contracts.list_finish as listing_list_finish
+use Rattle.listing.specs.contracts.taped.LinesErrorFromAfterEnd.from as listing_taped_LinesErrorFromAfterEnd_from
 use Rattle.face.specs.contracts.part_told as face_part_told
-use Rattle.face.specs.contracts.request_from as face_request_from
-use Rattle.face.specs.contracts.request_to as face_request_to
-use Rattle.face.specs.contracts.state_from as face_state_from
-use Rattle.face.specs.contracts.state_to as face_state_to
+use Rattle.face.specs.contracts.requests.CRequestFromRecord.from as face_requests_CRequestFromRecord_from
+use Rattle.face.specs.contracts.requests.HostArgsFromCRequest.from as face_requests_HostArgsFromCRequest_from
+use Rattle.face.specs.contracts.requests.PushArgsFromCRequest.from as face_requests_PushArgsFromCRequest_from
+use Rattle.face.specs.contracts.requests.ReplaceArgsFromCRequest.from as face_requests_ReplaceArgsFromCRequest_from
+use Rattle.face.specs.contracts.requests.RequestTryFromCRequest.try_from as face_requests_RequestTryFromCRequest_try_from
+use Rattle.face.specs.contracts.requests.ReturnHostArgsFromCRequest.from as face_requests_ReturnHostArgsFromCRequest_from
+use Rattle.face.specs.contracts.state.CStateFromState.from as face_state_CStateFromState_from
+use Rattle.face.specs.contracts.state.StateFromCState.from as face_state_StateFromCState_from
 use Rattle.face_leaves.specs.contracts.cattlecleat_align as face_leaves_cattlecleat_align
 use Rattle.face_leaves.specs.contracts.cattlecleat_done_with as face_leaves_cattlecleat_done_with
 use Rattle.face_leaves.specs.contracts.cattlecleat_from_register as face_leaves_cattlecleat_from_register
@@ -194,6 +202,10 @@ use Rattle.face_leaves.specs.contracts.cattlecleat_take_done_reason as face_leav
 use Rattle.face_leaves.specs.contracts.cattlecleat_to_register as face_leaves_cattlecleat_to_register
 use Rattle.face_leaves.specs.contracts.cattlecleat_write_record as face_leaves_cattlecleat_write_record
 use Rattle.face_leaves.specs.contracts.cattlecleat_zero_registers as face_leaves_cattlecleat_zero_registers
+use Rattle.face_leaves.specs.contracts.slot.CReasonFromDoneReason.from as face_leaves_slot_CReasonFromDoneReason_from
+use Rattle.face_leaves.specs.contracts.slot.CReasonFromDoneSlot.from as face_leaves_slot_CReasonFromDoneSlot_from
+use Rattle.face_leaves.specs.contracts.slot.DoneReasonFromCReason.from as face_leaves_slot_DoneReasonFromCReason_from
+use Rattle.face_leaves.specs.contracts.slot.DoneSlotFromCReason.from as face_leaves_slot_DoneSlotFromCReason_from
 use Rattle.face_place.specs.contracts.cattlecleat_host_part_in_place as face_place_cattlecleat_host_part_in_place
 use Rattle.face_place.specs.contracts.cattlecleat_pop_frame as face_place_cattlecleat_pop_frame
 use Rattle.face_place.specs.contracts.cattlecleat_prepare_host_frame as face_place_cattlecleat_prepare_host_frame
@@ -212,61 +224,21 @@ use Rattle.face_ask.specs.contracts.cattlecleat_sync_registers as face_ask_cattl
 use Rattle.face_replay.specs.contracts.cattlecleat_feed as face_replay_cattlecleat_feed
 use Rattle.face_replay.specs.contracts.cattlecleat_finish as face_replay_cattlecleat_finish
 use Rattle.face_replay.specs.contracts.cattlecleat_replay as face_replay_cattlecleat_replay
+use Rattle.face_replay.specs.contracts.tapes.TapeFromCTape.from as face_replay_tapes_TapeFromCTape_from
+use Rattle.face_replay.specs.contracts.traces.RunFromCRun.from as face_replay_traces_RunFromCRun_from
 use Rattle.demands.specs.Settled.{Settled}
 
-pub settled_given_given_if :
-    Settled given_given_if.ended (λ M 𝓤 𝓛. given_given_if.clauses 𝓛) (λ κ r. r)
-settled_given_given_if = record {
+pub settled_regs_align_U64FromNoAddress_from :
+    Settled regs_align_U64FromNoAddress_from.ended (λ M 𝓤 𝓛. regs_align_U64FromNoAddress_from.clauses 𝓛) (λ κ r. r)
+settled_regs_align_U64FromNoAddress_from = record {
   Post = λ κ a r e. _;
   asks_nothing = λ M 𝓤 𝓛 mem run κ a g. refl;
   asks_no_ghost = λ M 𝓤 𝓛 mem run κ a. refl;
   promises = λ M 𝓤 𝓛 mem run κ a g r e. refl;
   once = λ κ a r r' ws ws' p q.
-      let e = at_exit given_given_if.ended κ a ws in
-      let e' = at_exit given_given_if.ended κ a ws' in
-      let s = given_all.given_if_settled κ a r r' e e' p q in
-      (s, refl);
-}
-
-pub settled_given_given_number :
-    Settled given_given_number.ended (λ M 𝓤 𝓛. given_given_number.clauses 𝓛) (λ κ r. r)
-settled_given_given_number = record {
-  Post = λ κ a r e. _;
-  asks_nothing = λ M 𝓤 𝓛 mem run κ a g. refl;
-  asks_no_ghost = λ M 𝓤 𝓛 mem run κ a. refl;
-  promises = λ M 𝓤 𝓛 mem run κ a g r e. refl;
-  once = λ κ a r r' ws ws' p q.
-      let e = at_exit given_given_number.ended κ a ws in
-      let e' = at_exit given_given_number.ended κ a ws' in
-      let s = given_all.given_number_settled κ a r r' e e' p q in
-      (s, refl);
-}
-
-pub settled_given_is_given :
-    Settled given_is_given.ended (λ M 𝓤 𝓛. given_is_given.clauses 𝓛) (λ κ r. r)
-settled_given_is_given = record {
-  Post = λ κ a r e. _;
-  asks_nothing = λ M 𝓤 𝓛 mem run κ a g. refl;
-  asks_no_ghost = λ M 𝓤 𝓛 mem run κ a. refl;
-  promises = λ M 𝓤 𝓛 mem run κ a g r e. refl;
-  once = λ κ a r r' ws ws' p q.
-      let e = at_exit given_is_given.ended κ a ws in
-      let e' = at_exit given_is_given.ended κ a ws' in
-      let s = given_all.is_given_settled κ a r r' e e' p q in
-      (s, refl);
-}
-
-pub settled_given_or_else :
-    Settled given_or_else.ended (λ M 𝓤 𝓛. given_or_else.clauses 𝓛) (λ κ r. r)
-settled_given_or_else = record {
-  Post = λ κ a r e. _;
-  asks_nothing = λ M 𝓤 𝓛 mem run κ a g. refl;
-  asks_no_ghost = λ M 𝓤 𝓛 mem run κ a. refl;
-  promises = λ M 𝓤 𝓛 mem run κ a g r e. refl;
-  once = λ κ a r r' ws ws' p q.
-      let e = at_exit given_or_else.ended κ a ws in
-      let e' = at_exit given_or_else.ended κ a ws' in
-      let s = given_all.or_else_settled κ a r r' e e' p q in
+      let e = at_exit regs_align_U64FromNoAddress_from.ended κ a ws in
+      let e' = at_exit regs_align_U64FromNoAddress_from.ended κ a ws' in
+      let s = regs_all.u64_from_no_address_from_settled κ a r r' e e' p q in
       (s, refl);
 }
 
@@ -284,129 +256,255 @@ settled_regs_align_relative_to = record {
       (s, refl);
 }
 
-pub settled_regs_from_bool :
-    Settled regs_from_bool.ended (λ M 𝓤 𝓛. regs_from_bool.clauses 𝓛) (λ κ r. r)
-settled_regs_from_bool = record {
+pub settled_regs_convert_BoolInRegister_from_register :
+    Settled regs_convert_BoolInRegister_from_register.ended (λ M 𝓤 𝓛. regs_convert_BoolInRegister_from_register.clauses 𝓛) (λ κ r. r)
+settled_regs_convert_BoolInRegister_from_register = record {
   Post = λ κ a r e. _;
   asks_nothing = λ M 𝓤 𝓛 mem run κ a g. refl;
   asks_no_ghost = λ M 𝓤 𝓛 mem run κ a. refl;
   promises = λ M 𝓤 𝓛 mem run κ a g r e. refl;
   once = λ κ a r r' ws ws' p q.
-      let e = at_exit regs_from_bool.ended κ a ws in
-      let e' = at_exit regs_from_bool.ended κ a ws' in
-      let s = regs_all.from_bool_settled κ a r r' e e' p q in
+      let e = at_exit regs_convert_BoolInRegister_from_register.ended κ a ws in
+      let e' = at_exit regs_convert_BoolInRegister_from_register.ended κ a ws' in
+      let s = regs_all.bool_in_register_from_register_settled κ a r r' e e' p q in
       (s, refl);
 }
 
-pub settled_regs_from_i16 :
-    Settled regs_from_i16.ended (λ M 𝓤 𝓛. regs_from_i16.clauses 𝓛) (λ κ r. r)
-settled_regs_from_i16 = record {
+pub settled_regs_convert_BoolInRegister_into_register :
+    Settled regs_convert_BoolInRegister_into_register.ended (λ M 𝓤 𝓛. regs_convert_BoolInRegister_into_register.clauses 𝓛) (λ κ r. r)
+settled_regs_convert_BoolInRegister_into_register = record {
   Post = λ κ a r e. _;
   asks_nothing = λ M 𝓤 𝓛 mem run κ a g. refl;
   asks_no_ghost = λ M 𝓤 𝓛 mem run κ a. refl;
   promises = λ M 𝓤 𝓛 mem run κ a g r e. refl;
   once = λ κ a r r' ws ws' p q.
-      let e = at_exit regs_from_i16.ended κ a ws in
-      let e' = at_exit regs_from_i16.ended κ a ws' in
-      let s = regs_all.from_i16_settled κ a r r' e e' p q in
+      let e = at_exit regs_convert_BoolInRegister_into_register.ended κ a ws in
+      let e' = at_exit regs_convert_BoolInRegister_into_register.ended κ a ws' in
+      let s = regs_all.bool_in_register_into_register_settled κ a r r' e e' p q in
       (s, refl);
 }
 
-pub settled_regs_from_i32 :
-    Settled regs_from_i32.ended (λ M 𝓤 𝓛. regs_from_i32.clauses 𝓛) (λ κ r. r)
-settled_regs_from_i32 = record {
+pub settled_regs_convert_I16InRegister_from_register :
+    Settled regs_convert_I16InRegister_from_register.ended (λ M 𝓤 𝓛. regs_convert_I16InRegister_from_register.clauses 𝓛) (λ κ r. r)
+settled_regs_convert_I16InRegister_from_register = record {
   Post = λ κ a r e. _;
   asks_nothing = λ M 𝓤 𝓛 mem run κ a g. refl;
   asks_no_ghost = λ M 𝓤 𝓛 mem run κ a. refl;
   promises = λ M 𝓤 𝓛 mem run κ a g r e. refl;
   once = λ κ a r r' ws ws' p q.
-      let e = at_exit regs_from_i32.ended κ a ws in
-      let e' = at_exit regs_from_i32.ended κ a ws' in
-      let s = regs_all.from_i32_settled κ a r r' e e' p q in
+      let e = at_exit regs_convert_I16InRegister_from_register.ended κ a ws in
+      let e' = at_exit regs_convert_I16InRegister_from_register.ended κ a ws' in
+      let s = regs_all.i16_in_register_from_register_settled κ a r r' e e' p q in
       (s, refl);
 }
 
-pub settled_regs_from_i64 :
-    Settled regs_from_i64.ended (λ M 𝓤 𝓛. regs_from_i64.clauses 𝓛) (λ κ r. r)
-settled_regs_from_i64 = record {
+pub settled_regs_convert_I16InRegister_into_register :
+    Settled regs_convert_I16InRegister_into_register.ended (λ M 𝓤 𝓛. regs_convert_I16InRegister_into_register.clauses 𝓛) (λ κ r. r)
+settled_regs_convert_I16InRegister_into_register = record {
   Post = λ κ a r e. _;
   asks_nothing = λ M 𝓤 𝓛 mem run κ a g. refl;
   asks_no_ghost = λ M 𝓤 𝓛 mem run κ a. refl;
   promises = λ M 𝓤 𝓛 mem run κ a g r e. refl;
   once = λ κ a r r' ws ws' p q.
-      let e = at_exit regs_from_i64.ended κ a ws in
-      let e' = at_exit regs_from_i64.ended κ a ws' in
-      let s = regs_all.from_i64_settled κ a r r' e e' p q in
+      let e = at_exit regs_convert_I16InRegister_into_register.ended κ a ws in
+      let e' = at_exit regs_convert_I16InRegister_into_register.ended κ a ws' in
+      let s = regs_all.i16_in_register_into_register_settled κ a r r' e e' p q in
       (s, refl);
 }
 
-pub settled_regs_from_i8 :
-    Settled regs_from_i8.ended (λ M 𝓤 𝓛. regs_from_i8.clauses 𝓛) (λ κ r. r)
-settled_regs_from_i8 = record {
+pub settled_regs_convert_I32InRegister_from_register :
+    Settled regs_convert_I32InRegister_from_register.ended (λ M 𝓤 𝓛. regs_convert_I32InRegister_from_register.clauses 𝓛) (λ κ r. r)
+settled_regs_convert_I32InRegister_from_register = record {
   Post = λ κ a r e. _;
   asks_nothing = λ M 𝓤 𝓛 mem run κ a g. refl;
   asks_no_ghost = λ M 𝓤 𝓛 mem run κ a. refl;
   promises = λ M 𝓤 𝓛 mem run κ a g r e. refl;
   once = λ κ a r r' ws ws' p q.
-      let e = at_exit regs_from_i8.ended κ a ws in
-      let e' = at_exit regs_from_i8.ended κ a ws' in
-      let s = regs_all.from_i8_settled κ a r r' e e' p q in
+      let e = at_exit regs_convert_I32InRegister_from_register.ended κ a ws in
+      let e' = at_exit regs_convert_I32InRegister_from_register.ended κ a ws' in
+      let s = regs_all.i32_in_register_from_register_settled κ a r r' e e' p q in
       (s, refl);
 }
 
-pub settled_regs_from_u16 :
-    Settled regs_from_u16.ended (λ M 𝓤 𝓛. regs_from_u16.clauses 𝓛) (λ κ r. r)
-settled_regs_from_u16 = record {
+pub settled_regs_convert_I32InRegister_into_register :
+    Settled regs_convert_I32InRegister_into_register.ended (λ M 𝓤 𝓛. regs_convert_I32InRegister_into_register.clauses 𝓛) (λ κ r. r)
+settled_regs_convert_I32InRegister_into_register = record {
   Post = λ κ a r e. _;
   asks_nothing = λ M 𝓤 𝓛 mem run κ a g. refl;
   asks_no_ghost = λ M 𝓤 𝓛 mem run κ a. refl;
   promises = λ M 𝓤 𝓛 mem run κ a g r e. refl;
   once = λ κ a r r' ws ws' p q.
-      let e = at_exit regs_from_u16.ended κ a ws in
-      let e' = at_exit regs_from_u16.ended κ a ws' in
-      let s = regs_all.from_u16_settled κ a r r' e e' p q in
+      let e = at_exit regs_convert_I32InRegister_into_register.ended κ a ws in
+      let e' = at_exit regs_convert_I32InRegister_into_register.ended κ a ws' in
+      let s = regs_all.i32_in_register_into_register_settled κ a r r' e e' p q in
       (s, refl);
 }
 
-pub settled_regs_from_u32 :
-    Settled regs_from_u32.ended (λ M 𝓤 𝓛. regs_from_u32.clauses 𝓛) (λ κ r. r)
-settled_regs_from_u32 = record {
+pub settled_regs_convert_I64InRegister_from_register :
+    Settled regs_convert_I64InRegister_from_register.ended (λ M 𝓤 𝓛. regs_convert_I64InRegister_from_register.clauses 𝓛) (λ κ r. r)
+settled_regs_convert_I64InRegister_from_register = record {
   Post = λ κ a r e. _;
   asks_nothing = λ M 𝓤 𝓛 mem run κ a g. refl;
   asks_no_ghost = λ M 𝓤 𝓛 mem run κ a. refl;
   promises = λ M 𝓤 𝓛 mem run κ a g r e. refl;
   once = λ κ a r r' ws ws' p q.
-      let e = at_exit regs_from_u32.ended κ a ws in
-      let e' = at_exit regs_from_u32.ended κ a ws' in
-      let s = regs_all.from_u32_settled κ a r r' e e' p q in
+      let e = at_exit regs_convert_I64InRegister_from_register.ended κ a ws in
+      let e' = at_exit regs_convert_I64InRegister_from_register.ended κ a ws' in
+      let s = regs_all.i64_in_register_from_register_settled κ a r r' e e' p q in
       (s, refl);
 }
 
-pub settled_regs_from_u64 :
-    Settled regs_from_u64.ended (λ M 𝓤 𝓛. regs_from_u64.clauses 𝓛) (λ κ r. r)
-settled_regs_from_u64 = record {
+pub settled_regs_convert_I64InRegister_into_register :
+    Settled regs_convert_I64InRegister_into_register.ended (λ M 𝓤 𝓛. regs_convert_I64InRegister_into_register.clauses 𝓛) (λ κ r. r)
+settled_regs_convert_I64InRegister_into_register = record {
   Post = λ κ a r e. _;
   asks_nothing = λ M 𝓤 𝓛 mem run κ a g. refl;
   asks_no_ghost = λ M 𝓤 𝓛 mem run κ a. refl;
   promises = λ M 𝓤 𝓛 mem run κ a g r e. refl;
   once = λ κ a r r' ws ws' p q.
-      let e = at_exit regs_from_u64.ended κ a ws in
-      let e' = at_exit regs_from_u64.ended κ a ws' in
-      let s = regs_all.from_u64_settled κ a r r' e e' p q in
+      let e = at_exit regs_convert_I64InRegister_into_register.ended κ a ws in
+      let e' = at_exit regs_convert_I64InRegister_into_register.ended κ a ws' in
+      let s = regs_all.i64_in_register_into_register_settled κ a r r' e e' p q in
       (s, refl);
 }
 
-pub settled_regs_from_u8 :
-    Settled regs_from_u8.ended (λ M 𝓤 𝓛. regs_from_u8.clauses 𝓛) (λ κ r. r)
-settled_regs_from_u8 = record {
+pub settled_regs_convert_I8InRegister_from_register :
+    Settled regs_convert_I8InRegister_from_register.ended (λ M 𝓤 𝓛. regs_convert_I8InRegister_from_register.clauses 𝓛) (λ κ r. r)
+settled_regs_convert_I8InRegister_from_register = record {
   Post = λ κ a r e. _;
   asks_nothing = λ M 𝓤 𝓛 mem run κ a g. refl;
   asks_no_ghost = λ M 𝓤 𝓛 mem run κ a. refl;
   promises = λ M 𝓤 𝓛 mem run κ a g r e. refl;
   once = λ κ a r r' ws ws' p q.
-      let e = at_exit regs_from_u8.ended κ a ws in
-      let e' = at_exit regs_from_u8.ended κ a ws' in
-      let s = regs_all.from_u8_settled κ a r r' e e' p q in
+      let e = at_exit regs_convert_I8InRegister_from_register.ended κ a ws in
+      let e' = at_exit regs_convert_I8InRegister_from_register.ended κ a ws' in
+      let s = regs_all.i8_in_register_from_register_settled κ a r r' e e' p q in
+      (s, refl);
+}
+
+pub settled_regs_convert_I8InRegister_into_register :
+    Settled regs_convert_I8InRegister_into_register.ended (λ M 𝓤 𝓛. regs_convert_I8InRegister_into_register.clauses 𝓛) (λ κ r. r)
+settled_regs_convert_I8InRegister_into_register = record {
+  Post = λ κ a r e. _;
+  asks_nothing = λ M 𝓤 𝓛 mem run κ a g. refl;
+  asks_no_ghost = λ M 𝓤 𝓛 mem run κ a. refl;
+  promises = λ M 𝓤 𝓛 mem run κ a g r e. refl;
+  once = λ κ a r r' ws ws' p q.
+      let e = at_exit regs_convert_I8InRegister_into_register.ended κ a ws in
+      let e' = at_exit regs_convert_I8InRegister_into_register.ended κ a ws' in
+      let s = regs_all.i8_in_register_into_register_settled κ a r r' e e' p q in
+      (s, refl);
+}
+
+pub settled_regs_convert_U16InRegister_from_register :
+    Settled regs_convert_U16InRegister_from_register.ended (λ M 𝓤 𝓛. regs_convert_U16InRegister_from_register.clauses 𝓛) (λ κ r. r)
+settled_regs_convert_U16InRegister_from_register = record {
+  Post = λ κ a r e. _;
+  asks_nothing = λ M 𝓤 𝓛 mem run κ a g. refl;
+  asks_no_ghost = λ M 𝓤 𝓛 mem run κ a. refl;
+  promises = λ M 𝓤 𝓛 mem run κ a g r e. refl;
+  once = λ κ a r r' ws ws' p q.
+      let e = at_exit regs_convert_U16InRegister_from_register.ended κ a ws in
+      let e' = at_exit regs_convert_U16InRegister_from_register.ended κ a ws' in
+      let s = regs_all.u16_in_register_from_register_settled κ a r r' e e' p q in
+      (s, refl);
+}
+
+pub settled_regs_convert_U16InRegister_into_register :
+    Settled regs_convert_U16InRegister_into_register.ended (λ M 𝓤 𝓛. regs_convert_U16InRegister_into_register.clauses 𝓛) (λ κ r. r)
+settled_regs_convert_U16InRegister_into_register = record {
+  Post = λ κ a r e. _;
+  asks_nothing = λ M 𝓤 𝓛 mem run κ a g. refl;
+  asks_no_ghost = λ M 𝓤 𝓛 mem run κ a. refl;
+  promises = λ M 𝓤 𝓛 mem run κ a g r e. refl;
+  once = λ κ a r r' ws ws' p q.
+      let e = at_exit regs_convert_U16InRegister_into_register.ended κ a ws in
+      let e' = at_exit regs_convert_U16InRegister_into_register.ended κ a ws' in
+      let s = regs_all.u16_in_register_into_register_settled κ a r r' e e' p q in
+      (s, refl);
+}
+
+pub settled_regs_convert_U32InRegister_from_register :
+    Settled regs_convert_U32InRegister_from_register.ended (λ M 𝓤 𝓛. regs_convert_U32InRegister_from_register.clauses 𝓛) (λ κ r. r)
+settled_regs_convert_U32InRegister_from_register = record {
+  Post = λ κ a r e. _;
+  asks_nothing = λ M 𝓤 𝓛 mem run κ a g. refl;
+  asks_no_ghost = λ M 𝓤 𝓛 mem run κ a. refl;
+  promises = λ M 𝓤 𝓛 mem run κ a g r e. refl;
+  once = λ κ a r r' ws ws' p q.
+      let e = at_exit regs_convert_U32InRegister_from_register.ended κ a ws in
+      let e' = at_exit regs_convert_U32InRegister_from_register.ended κ a ws' in
+      let s = regs_all.u32_in_register_from_register_settled κ a r r' e e' p q in
+      (s, refl);
+}
+
+pub settled_regs_convert_U32InRegister_into_register :
+    Settled regs_convert_U32InRegister_into_register.ended (λ M 𝓤 𝓛. regs_convert_U32InRegister_into_register.clauses 𝓛) (λ κ r. r)
+settled_regs_convert_U32InRegister_into_register = record {
+  Post = λ κ a r e. _;
+  asks_nothing = λ M 𝓤 𝓛 mem run κ a g. refl;
+  asks_no_ghost = λ M 𝓤 𝓛 mem run κ a. refl;
+  promises = λ M 𝓤 𝓛 mem run κ a g r e. refl;
+  once = λ κ a r r' ws ws' p q.
+      let e = at_exit regs_convert_U32InRegister_into_register.ended κ a ws in
+      let e' = at_exit regs_convert_U32InRegister_into_register.ended κ a ws' in
+      let s = regs_all.u32_in_register_into_register_settled κ a r r' e e' p q in
+      (s, refl);
+}
+
+pub settled_regs_convert_U64InRegister_from_register :
+    Settled regs_convert_U64InRegister_from_register.ended (λ M 𝓤 𝓛. regs_convert_U64InRegister_from_register.clauses 𝓛) (λ κ r. r)
+settled_regs_convert_U64InRegister_from_register = record {
+  Post = λ κ a r e. _;
+  asks_nothing = λ M 𝓤 𝓛 mem run κ a g. refl;
+  asks_no_ghost = λ M 𝓤 𝓛 mem run κ a. refl;
+  promises = λ M 𝓤 𝓛 mem run κ a g r e. refl;
+  once = λ κ a r r' ws ws' p q.
+      let e = at_exit regs_convert_U64InRegister_from_register.ended κ a ws in
+      let e' = at_exit regs_convert_U64InRegister_from_register.ended κ a ws' in
+      let s = regs_all.u64_in_register_from_register_settled κ a r r' e e' p q in
+      (s, refl);
+}
+
+pub settled_regs_convert_U64InRegister_into_register :
+    Settled regs_convert_U64InRegister_into_register.ended (λ M 𝓤 𝓛. regs_convert_U64InRegister_into_register.clauses 𝓛) (λ κ r. r)
+settled_regs_convert_U64InRegister_into_register = record {
+  Post = λ κ a r e. _;
+  asks_nothing = λ M 𝓤 𝓛 mem run κ a g. refl;
+  asks_no_ghost = λ M 𝓤 𝓛 mem run κ a. refl;
+  promises = λ M 𝓤 𝓛 mem run κ a g r e. refl;
+  once = λ κ a r r' ws ws' p q.
+      let e = at_exit regs_convert_U64InRegister_into_register.ended κ a ws in
+      let e' = at_exit regs_convert_U64InRegister_into_register.ended κ a ws' in
+      let s = regs_all.u64_in_register_into_register_settled κ a r r' e e' p q in
+      (s, refl);
+}
+
+pub settled_regs_convert_U8InRegister_from_register :
+    Settled regs_convert_U8InRegister_from_register.ended (λ M 𝓤 𝓛. regs_convert_U8InRegister_from_register.clauses 𝓛) (λ κ r. r)
+settled_regs_convert_U8InRegister_from_register = record {
+  Post = λ κ a r e. _;
+  asks_nothing = λ M 𝓤 𝓛 mem run κ a g. refl;
+  asks_no_ghost = λ M 𝓤 𝓛 mem run κ a. refl;
+  promises = λ M 𝓤 𝓛 mem run κ a g r e. refl;
+  once = λ κ a r r' ws ws' p q.
+      let e = at_exit regs_convert_U8InRegister_from_register.ended κ a ws in
+      let e' = at_exit regs_convert_U8InRegister_from_register.ended κ a ws' in
+      let s = regs_all.u8_in_register_from_register_settled κ a r r' e e' p q in
+      (s, refl);
+}
+
+pub settled_regs_convert_U8InRegister_into_register :
+    Settled regs_convert_U8InRegister_into_register.ended (λ M 𝓤 𝓛. regs_convert_U8InRegister_into_register.clauses 𝓛) (λ κ r. r)
+settled_regs_convert_U8InRegister_into_register = record {
+  Post = λ κ a r e. _;
+  asks_nothing = λ M 𝓤 𝓛 mem run κ a g. refl;
+  asks_no_ghost = λ M 𝓤 𝓛 mem run κ a. refl;
+  promises = λ M 𝓤 𝓛 mem run κ a g r e. refl;
+  once = λ κ a r r' ws ws' p q.
+      let e = at_exit regs_convert_U8InRegister_into_register.ended κ a ws in
+      let e' = at_exit regs_convert_U8InRegister_into_register.ended κ a ws' in
+      let s = regs_all.u8_in_register_into_register_settled κ a r r' e e' p q in
       (s, refl);
 }
 
@@ -522,132 +620,6 @@ settled_regs_registers_Registers_zeroed = record {
       (s, refl);
 }
 
-pub settled_regs_to_bool :
-    Settled regs_to_bool.ended (λ M 𝓤 𝓛. regs_to_bool.clauses 𝓛) (λ κ r. r)
-settled_regs_to_bool = record {
-  Post = λ κ a r e. _;
-  asks_nothing = λ M 𝓤 𝓛 mem run κ a g. refl;
-  asks_no_ghost = λ M 𝓤 𝓛 mem run κ a. refl;
-  promises = λ M 𝓤 𝓛 mem run κ a g r e. refl;
-  once = λ κ a r r' ws ws' p q.
-      let e = at_exit regs_to_bool.ended κ a ws in
-      let e' = at_exit regs_to_bool.ended κ a ws' in
-      let s = regs_all.to_bool_settled κ a r r' e e' p q in
-      (s, refl);
-}
-
-pub settled_regs_to_i16 :
-    Settled regs_to_i16.ended (λ M 𝓤 𝓛. regs_to_i16.clauses 𝓛) (λ κ r. r)
-settled_regs_to_i16 = record {
-  Post = λ κ a r e. _;
-  asks_nothing = λ M 𝓤 𝓛 mem run κ a g. refl;
-  asks_no_ghost = λ M 𝓤 𝓛 mem run κ a. refl;
-  promises = λ M 𝓤 𝓛 mem run κ a g r e. refl;
-  once = λ κ a r r' ws ws' p q.
-      let e = at_exit regs_to_i16.ended κ a ws in
-      let e' = at_exit regs_to_i16.ended κ a ws' in
-      let s = regs_all.to_i16_settled κ a r r' e e' p q in
-      (s, refl);
-}
-
-pub settled_regs_to_i32 :
-    Settled regs_to_i32.ended (λ M 𝓤 𝓛. regs_to_i32.clauses 𝓛) (λ κ r. r)
-settled_regs_to_i32 = record {
-  Post = λ κ a r e. _;
-  asks_nothing = λ M 𝓤 𝓛 mem run κ a g. refl;
-  asks_no_ghost = λ M 𝓤 𝓛 mem run κ a. refl;
-  promises = λ M 𝓤 𝓛 mem run κ a g r e. refl;
-  once = λ κ a r r' ws ws' p q.
-      let e = at_exit regs_to_i32.ended κ a ws in
-      let e' = at_exit regs_to_i32.ended κ a ws' in
-      let s = regs_all.to_i32_settled κ a r r' e e' p q in
-      (s, refl);
-}
-
-pub settled_regs_to_i64 :
-    Settled regs_to_i64.ended (λ M 𝓤 𝓛. regs_to_i64.clauses 𝓛) (λ κ r. r)
-settled_regs_to_i64 = record {
-  Post = λ κ a r e. _;
-  asks_nothing = λ M 𝓤 𝓛 mem run κ a g. refl;
-  asks_no_ghost = λ M 𝓤 𝓛 mem run κ a. refl;
-  promises = λ M 𝓤 𝓛 mem run κ a g r e. refl;
-  once = λ κ a r r' ws ws' p q.
-      let e = at_exit regs_to_i64.ended κ a ws in
-      let e' = at_exit regs_to_i64.ended κ a ws' in
-      let s = regs_all.to_i64_settled κ a r r' e e' p q in
-      (s, refl);
-}
-
-pub settled_regs_to_i8 :
-    Settled regs_to_i8.ended (λ M 𝓤 𝓛. regs_to_i8.clauses 𝓛) (λ κ r. r)
-settled_regs_to_i8 = record {
-  Post = λ κ a r e. _;
-  asks_nothing = λ M 𝓤 𝓛 mem run κ a g. refl;
-  asks_no_ghost = λ M 𝓤 𝓛 mem run κ a. refl;
-  promises = λ M 𝓤 𝓛 mem run κ a g r e. refl;
-  once = λ κ a r r' ws ws' p q.
-      let e = at_exit regs_to_i8.ended κ a ws in
-      let e' = at_exit regs_to_i8.ended κ a ws' in
-      let s = regs_all.to_i8_settled κ a r r' e e' p q in
-      (s, refl);
-}
-
-pub settled_regs_to_u16 :
-    Settled regs_to_u16.ended (λ M 𝓤 𝓛. regs_to_u16.clauses 𝓛) (λ κ r. r)
-settled_regs_to_u16 = record {
-  Post = λ κ a r e. _;
-  asks_nothing = λ M 𝓤 𝓛 mem run κ a g. refl;
-  asks_no_ghost = λ M 𝓤 𝓛 mem run κ a. refl;
-  promises = λ M 𝓤 𝓛 mem run κ a g r e. refl;
-  once = λ κ a r r' ws ws' p q.
-      let e = at_exit regs_to_u16.ended κ a ws in
-      let e' = at_exit regs_to_u16.ended κ a ws' in
-      let s = regs_all.to_u16_settled κ a r r' e e' p q in
-      (s, refl);
-}
-
-pub settled_regs_to_u32 :
-    Settled regs_to_u32.ended (λ M 𝓤 𝓛. regs_to_u32.clauses 𝓛) (λ κ r. r)
-settled_regs_to_u32 = record {
-  Post = λ κ a r e. _;
-  asks_nothing = λ M 𝓤 𝓛 mem run κ a g. refl;
-  asks_no_ghost = λ M 𝓤 𝓛 mem run κ a. refl;
-  promises = λ M 𝓤 𝓛 mem run κ a g r e. refl;
-  once = λ κ a r r' ws ws' p q.
-      let e = at_exit regs_to_u32.ended κ a ws in
-      let e' = at_exit regs_to_u32.ended κ a ws' in
-      let s = regs_all.to_u32_settled κ a r r' e e' p q in
-      (s, refl);
-}
-
-pub settled_regs_to_u64 :
-    Settled regs_to_u64.ended (λ M 𝓤 𝓛. regs_to_u64.clauses 𝓛) (λ κ r. r)
-settled_regs_to_u64 = record {
-  Post = λ κ a r e. _;
-  asks_nothing = λ M 𝓤 𝓛 mem run κ a g. refl;
-  asks_no_ghost = λ M 𝓤 𝓛 mem run κ a. refl;
-  promises = λ M 𝓤 𝓛 mem run κ a g r e. refl;
-  once = λ κ a r r' ws ws' p q.
-      let e = at_exit regs_to_u64.ended κ a ws in
-      let e' = at_exit regs_to_u64.ended κ a ws' in
-      let s = regs_all.to_u64_settled κ a r r' e e' p q in
-      (s, refl);
-}
-
-pub settled_regs_to_u8 :
-    Settled regs_to_u8.ended (λ M 𝓤 𝓛. regs_to_u8.clauses 𝓛) (λ κ r. r)
-settled_regs_to_u8 = record {
-  Post = λ κ a r e. _;
-  asks_nothing = λ M 𝓤 𝓛 mem run κ a g. refl;
-  asks_no_ghost = λ M 𝓤 𝓛 mem run κ a. refl;
-  promises = λ M 𝓤 𝓛 mem run κ a g r e. refl;
-  once = λ κ a r r' ws ws' p q.
-      let e = at_exit regs_to_u8.ended κ a ws in
-      let e' = at_exit regs_to_u8.ended κ a ws' in
-      let s = regs_all.to_u8_settled κ a r r' e e' p q in
-      (s, refl);
-}
-
 pub settled_done_DoneSlot_done_with :
     Settled done_DoneSlot_done_with.ended (λ M 𝓤 𝓛. done_DoneSlot_done_with.clauses 𝓛) (λ κ r. r)
 settled_done_DoneSlot_done_with = record {
@@ -687,6 +659,34 @@ settled_done_DoneSlot_take_done_reason = record {
       let e = at_exit done_DoneSlot_take_done_reason.ended κ a ws in
       let e' = at_exit done_DoneSlot_take_done_reason.ended κ a ws' in
       let s = done_all.take_done_reason_settled κ a r r' e e' p q in
+      (s, refl);
+}
+
+pub settled_done_U64FromAlreadyFilled_from :
+    Settled done_U64FromAlreadyFilled_from.ended (λ M 𝓤 𝓛. done_U64FromAlreadyFilled_from.clauses 𝓛) (λ κ r. r)
+settled_done_U64FromAlreadyFilled_from = record {
+  Post = λ κ a r e. _;
+  asks_nothing = λ M 𝓤 𝓛 mem run κ a g. refl;
+  asks_no_ghost = λ M 𝓤 𝓛 mem run κ a. refl;
+  promises = λ M 𝓤 𝓛 mem run κ a g r e. refl;
+  once = λ κ a r r' ws ws' p q.
+      let e = at_exit done_U64FromAlreadyFilled_from.ended κ a ws in
+      let e' = at_exit done_U64FromAlreadyFilled_from.ended κ a ws' in
+      let s = done_all.u64_from_already_filled_from_settled κ a r r' e e' p q in
+      (s, refl);
+}
+
+pub settled_done_U64FromNothingToTake_from :
+    Settled done_U64FromNothingToTake_from.ended (λ M 𝓤 𝓛. done_U64FromNothingToTake_from.clauses 𝓛) (λ κ r. r)
+settled_done_U64FromNothingToTake_from = record {
+  Post = λ κ a r e. _;
+  asks_nothing = λ M 𝓤 𝓛 mem run κ a g. refl;
+  asks_no_ghost = λ M 𝓤 𝓛 mem run κ a. refl;
+  promises = λ M 𝓤 𝓛 mem run κ a g r e. refl;
+  once = λ κ a r r' ws ws' p q.
+      let e = at_exit done_U64FromNothingToTake_from.ended κ a ws in
+      let e' = at_exit done_U64FromNothingToTake_from.ended κ a ws' in
+      let s = done_all.u64_from_nothing_to_take_from_settled κ a r r' e e' p q in
       (s, refl);
 }
 
@@ -1096,6 +1096,34 @@ settled_record_write_record = record {
       (λ i. (s i).0, λ i. (at_last a.0 (s i).1, (a.1.0, (a.1.1.0, tt))));
 }
 
+pub settled_rules_RefusalFromGrowthError_from :
+    Settled rules_RefusalFromGrowthError_from.ended (λ M 𝓤 𝓛. rules_RefusalFromGrowthError_from.clauses 𝓛) (λ κ r. r)
+settled_rules_RefusalFromGrowthError_from = record {
+  Post = λ κ a r e. _;
+  asks_nothing = λ M 𝓤 𝓛 mem run κ a g. refl;
+  asks_no_ghost = λ M 𝓤 𝓛 mem run κ a. refl;
+  promises = λ M 𝓤 𝓛 mem run κ a g r e. refl;
+  once = λ κ a r r' ws ws' p q.
+      let e = at_exit rules_RefusalFromGrowthError_from.ended κ a ws in
+      let e' = at_exit rules_RefusalFromGrowthError_from.ended κ a ws' in
+      let s = rules_all.refusal_from_growth_error_from_settled κ a r r' e e' p q in
+      (s, refl);
+}
+
+pub settled_rules_U64FromRefusal_from :
+    Settled rules_U64FromRefusal_from.ended (λ M 𝓤 𝓛. rules_U64FromRefusal_from.clauses 𝓛) (λ κ r. r)
+settled_rules_U64FromRefusal_from = record {
+  Post = λ κ a r e. _;
+  asks_nothing = λ M 𝓤 𝓛 mem run κ a g. refl;
+  asks_no_ghost = λ M 𝓤 𝓛 mem run κ a. refl;
+  promises = λ M 𝓤 𝓛 mem run κ a g r e. refl;
+  once = λ κ a r r' ws ws' p q.
+      let e = at_exit rules_U64FromRefusal_from.ended κ a ws in
+      let e' = at_exit rules_U64FromRefusal_from.ended κ a ws' in
+      let s = rules_all.u64_from_refusal_from_settled κ a r r' e e' p q in
+      (s, refl);
+}
+
 pub settled_request_host_in :
     Settled request_host_in.ended (λ M 𝓤 𝓛. request_host_in.clauses 𝓛) (λ κ r. r)
 settled_request_host_in = record {
@@ -1220,6 +1248,20 @@ settled_request_write_request = record {
       let e' = at_exit request_write_request.ended κ a ws' in
       let s = request_all.write_request_settled κ a r r' e e' p q in
       (λ i. (s i).0, λ i. (at_last a.0 (s i).1, (a.1.0, (a.1.1.0, tt))));
+}
+
+pub settled_reader_ReaderIterator_next :
+    Settled reader_ReaderIterator_next.ended (λ M 𝓤 𝓛. reader_ReaderIterator_next.clauses 𝓛) (λ κ r. r)
+settled_reader_ReaderIterator_next = record {
+  Post = λ κ a r e. _;
+  asks_nothing = λ M 𝓤 𝓛 mem run κ a g. refl;
+  asks_no_ghost = λ M 𝓤 𝓛 mem run κ a. refl;
+  promises = λ M 𝓤 𝓛 mem run κ a g r e. refl;
+  once = λ κ a r r' ws ws' p q.
+      let e = at_exit reader_ReaderIterator_next.ended κ a ws in
+      let e' = at_exit reader_ReaderIterator_next.ended κ a ws' in
+      let s = reader_all.reader_iterator_next_settled κ a r r' e e' p q in
+      (λ i. (s i).0, λ i. (at_last a.0 (s i).1, tt));
 }
 
 pub settled_reader_advance :
@@ -1555,20 +1597,6 @@ settled_stack_open = record {
       let e = at_exit stack_open.ended κ a ws in
       let e' = at_exit stack_open.ended κ a ws' in
       let s = stack_all.open_settled κ a r r' e e' p q in
-      (s, refl);
-}
-
-pub settled_stack_refusal_number :
-    Settled stack_refusal_number.ended (λ M 𝓤 𝓛. stack_refusal_number.clauses 𝓛) (λ κ r. r)
-settled_stack_refusal_number = record {
-  Post = λ κ a r e. _;
-  asks_nothing = λ M 𝓤 𝓛 mem run κ a g. refl;
-  asks_no_ghost = λ M 𝓤 𝓛 mem run κ a. refl;
-  promises = λ M 𝓤 𝓛 mem run κ a g r e. refl;
-  once = λ κ a r r' ws ws' p q.
-      let e = at_exit stack_refusal_number.ended κ a ws in
-      let e' = at_exit stack_refusal_number.ended κ a ws' in
-      let s = stack_all.refusal_number_settled κ a r r' e e' p q in
       (s, refl);
 }
 
@@ -2188,6 +2216,20 @@ settled_tape_begin = record {
       (s, refl);
 }
 
+pub settled_tape_cut_Cut_first_count :
+    Settled tape_cut_Cut_first_count.ended (λ M 𝓤 𝓛. tape_cut_Cut_first_count.clauses 𝓛) (λ κ r. r)
+settled_tape_cut_Cut_first_count = record {
+  Post = λ κ a r e. _;
+  asks_nothing = λ M 𝓤 𝓛 mem run κ a g. refl;
+  asks_no_ghost = λ M 𝓤 𝓛 mem run κ a. refl;
+  promises = λ M 𝓤 𝓛 mem run κ a g r e. refl;
+  once = λ κ a r r' ws ws' p q.
+      let e = at_exit tape_cut_Cut_first_count.ended κ a ws in
+      let e' = at_exit tape_cut_Cut_first_count.ended κ a ws' in
+      let s = tape_all.first_count_settled κ a r r' e e' p q in
+      (s, refl);
+}
+
 pub settled_tape_cut_block :
     Settled tape_cut_block.ended (λ M 𝓤 𝓛. tape_cut_block.clauses 𝓛) (λ κ r. r)
 settled_tape_cut_block = record {
@@ -2213,7 +2255,7 @@ settled_tape_feed = record {
       let e = at_exit tape_feed.ended κ a ws in
       let e' = at_exit tape_feed.ended κ a ws' in
       let s = tape_all.feed_settled κ a r r' e e' p q in
-      (λ i. (s i).0, λ i. (a.0, (at_last a.1.0 (s i).1.0, (at_last a.1.1.0 (s i).1.1, (a.1.1.1.0, tt)))));
+      (λ i. (s i).0, λ i. (at_last a.0 (s i).1.0, (at_last a.1.0 (s i).1.1.0, (at_last a.1.1.0 (s i).1.1.1, (a.1.1.1.0, tt)))));
 }
 
 pub settled_tape_finish :
@@ -2227,7 +2269,7 @@ settled_tape_finish = record {
       let e = at_exit tape_finish.ended κ a ws in
       let e' = at_exit tape_finish.ended κ a ws' in
       let s = tape_all.finish_settled κ a r r' e e' p q in
-      (λ i. (s i).0, λ i. (a.0, (at_last a.1.0 (s i).1.0, (at_last a.1.1.0 (s i).1.1, tt))));
+      (refl, λ i. (at_last a.0 (s i).0, (at_last a.1.0 (s i).1.0, (at_last a.1.1.0 (s i).1.1, tt))));
 }
 
 pub settled_tape_held_count :
@@ -2255,6 +2297,20 @@ settled_tape_hold = record {
       let e = at_exit tape_hold.ended κ a ws in
       let e' = at_exit tape_hold.ended κ a ws' in
       let s = tape_all.hold_settled κ a r r' e e' p q in
+      (s, refl);
+}
+
+pub settled_tape_tape_Tape_rests :
+    Settled tape_tape_Tape_rests.ended (λ M 𝓤 𝓛. tape_tape_Tape_rests.clauses 𝓛) (λ κ r. r)
+settled_tape_tape_Tape_rests = record {
+  Post = λ κ a r e. _;
+  asks_nothing = λ M 𝓤 𝓛 mem run κ a g. refl;
+  asks_no_ghost = λ M 𝓤 𝓛 mem run κ a. refl;
+  promises = λ M 𝓤 𝓛 mem run κ a g r e. refl;
+  once = λ κ a r r' ws ws' p q.
+      let e = at_exit tape_tape_Tape_rests.ended κ a ws in
+      let e' = at_exit tape_tape_Tape_rests.ended κ a ws' in
+      let s = tape_all.rests_settled κ a r r' e e' p q in
       (s, refl);
 }
 
@@ -2297,7 +2353,7 @@ settled_listing_list_feed = record {
       let e = at_exit listing_list_feed.ended κ a ws in
       let e' = at_exit listing_list_feed.ended κ a ws' in
       let s = listing_all.list_feed_settled κ a r r' e e' p q in
-      (λ i. (s i).0, λ i. (a.0, (at_last a.1.0 (s i).1.0, (at_last a.1.1.0 (s i).1.1.0, (a.1.1.1.0, (at_last a.1.1.1.1.0 (s i).1.1.1, tt))))));
+      (λ i. (s i).0, λ i. (at_last a.0 (s i).1.0, (at_last a.1.0 (s i).1.1.0, (at_last a.1.1.0 (s i).1.1.1.0, (a.1.1.1.0, (at_last a.1.1.1.1.0 (s i).1.1.1.1, tt))))));
 }
 
 pub settled_listing_list_finish :
@@ -2311,7 +2367,21 @@ settled_listing_list_finish = record {
       let e = at_exit listing_list_finish.ended κ a ws in
       let e' = at_exit listing_list_finish.ended κ a ws' in
       let s = listing_all.list_finish_settled κ a r r' e e' p q in
-      (λ i. (s i).0, λ i. (a.0, (at_last a.1.0 (s i).1.0, (at_last a.1.1.0 (s i).1.1.0, (at_last a.1.1.1.0 (s i).1.1.1, tt)))));
+      (λ i. (s i).0, λ i. (at_last a.0 (s i).1.0, (at_last a.1.0 (s i).1.1.0, (at_last a.1.1.0 (s i).1.1.1.0, (at_last a.1.1.1.0 (s i).1.1.1.1, tt)))));
+}
+
+pub settled_listing_taped_LinesErrorFromAfterEnd_from :
+    Settled listing_taped_LinesErrorFromAfterEnd_from.ended (λ M 𝓤 𝓛. listing_taped_LinesErrorFromAfterEnd_from.clauses 𝓛) (λ κ r. r)
+settled_listing_taped_LinesErrorFromAfterEnd_from = record {
+  Post = λ κ a r e. _;
+  asks_nothing = λ M 𝓤 𝓛 mem run κ a g. refl;
+  asks_no_ghost = λ M 𝓤 𝓛 mem run κ a. refl;
+  promises = λ M 𝓤 𝓛 mem run κ a g r e. refl;
+  once = λ κ a r r' ws ws' p q.
+      let e = at_exit listing_taped_LinesErrorFromAfterEnd_from.ended κ a ws in
+      let e' = at_exit listing_taped_LinesErrorFromAfterEnd_from.ended κ a ws' in
+      let s = listing_all.lines_error_from_after_end_from_settled κ a r r' e e' p q in
+      (s, refl);
 }
 
 pub settled_face_part_told :
@@ -2328,59 +2398,115 @@ settled_face_part_told = record {
       (s, refl);
 }
 
-pub settled_face_request_from :
-    Settled face_request_from.ended (λ M 𝓤 𝓛. face_request_from.clauses 𝓛) (λ κ r. r)
-settled_face_request_from = record {
+pub settled_face_requests_CRequestFromRecord_from :
+    Settled face_requests_CRequestFromRecord_from.ended (λ M 𝓤 𝓛. face_requests_CRequestFromRecord_from.clauses 𝓛) (λ κ r. r)
+settled_face_requests_CRequestFromRecord_from = record {
   Post = λ κ a r e. _;
   asks_nothing = λ M 𝓤 𝓛 mem run κ a g. refl;
   asks_no_ghost = λ M 𝓤 𝓛 mem run κ a. refl;
   promises = λ M 𝓤 𝓛 mem run κ a g r e. refl;
   once = λ κ a r r' ws ws' p q.
-      let e = at_exit face_request_from.ended κ a ws in
-      let e' = at_exit face_request_from.ended κ a ws' in
-      let s = face_all.request_from_settled κ a r r' e e' p q in
+      let e = at_exit face_requests_CRequestFromRecord_from.ended κ a ws in
+      let e' = at_exit face_requests_CRequestFromRecord_from.ended κ a ws' in
+      let s = face_all.c_request_from_record_from_settled κ a r r' e e' p q in
       (s, refl);
 }
 
-pub settled_face_request_to :
-    Settled face_request_to.ended (λ M 𝓤 𝓛. face_request_to.clauses 𝓛) (λ κ r. r)
-settled_face_request_to = record {
+pub settled_face_requests_HostArgsFromCRequest_from :
+    Settled face_requests_HostArgsFromCRequest_from.ended (λ M 𝓤 𝓛. face_requests_HostArgsFromCRequest_from.clauses 𝓛) (λ κ r. r)
+settled_face_requests_HostArgsFromCRequest_from = record {
   Post = λ κ a r e. _;
   asks_nothing = λ M 𝓤 𝓛 mem run κ a g. refl;
   asks_no_ghost = λ M 𝓤 𝓛 mem run κ a. refl;
   promises = λ M 𝓤 𝓛 mem run κ a g r e. refl;
   once = λ κ a r r' ws ws' p q.
-      let e = at_exit face_request_to.ended κ a ws in
-      let e' = at_exit face_request_to.ended κ a ws' in
-      let s = face_all.request_to_settled κ a r r' e e' p q in
+      let e = at_exit face_requests_HostArgsFromCRequest_from.ended κ a ws in
+      let e' = at_exit face_requests_HostArgsFromCRequest_from.ended κ a ws' in
+      let s = face_all.host_args_from_c_request_from_settled κ a r r' e e' p q in
       (s, refl);
 }
 
-pub settled_face_state_from :
-    Settled face_state_from.ended (λ M 𝓤 𝓛. face_state_from.clauses 𝓛) (λ κ r. r)
-settled_face_state_from = record {
+pub settled_face_requests_PushArgsFromCRequest_from :
+    Settled face_requests_PushArgsFromCRequest_from.ended (λ M 𝓤 𝓛. face_requests_PushArgsFromCRequest_from.clauses 𝓛) (λ κ r. r)
+settled_face_requests_PushArgsFromCRequest_from = record {
   Post = λ κ a r e. _;
   asks_nothing = λ M 𝓤 𝓛 mem run κ a g. refl;
   asks_no_ghost = λ M 𝓤 𝓛 mem run κ a. refl;
   promises = λ M 𝓤 𝓛 mem run κ a g r e. refl;
   once = λ κ a r r' ws ws' p q.
-      let e = at_exit face_state_from.ended κ a ws in
-      let e' = at_exit face_state_from.ended κ a ws' in
-      let s = face_all.state_from_settled κ a r r' e e' p q in
+      let e = at_exit face_requests_PushArgsFromCRequest_from.ended κ a ws in
+      let e' = at_exit face_requests_PushArgsFromCRequest_from.ended κ a ws' in
+      let s = face_all.push_args_from_c_request_from_settled κ a r r' e e' p q in
       (s, refl);
 }
 
-pub settled_face_state_to :
-    Settled face_state_to.ended (λ M 𝓤 𝓛. face_state_to.clauses 𝓛) (λ κ r. r)
-settled_face_state_to = record {
+pub settled_face_requests_ReplaceArgsFromCRequest_from :
+    Settled face_requests_ReplaceArgsFromCRequest_from.ended (λ M 𝓤 𝓛. face_requests_ReplaceArgsFromCRequest_from.clauses 𝓛) (λ κ r. r)
+settled_face_requests_ReplaceArgsFromCRequest_from = record {
   Post = λ κ a r e. _;
   asks_nothing = λ M 𝓤 𝓛 mem run κ a g. refl;
   asks_no_ghost = λ M 𝓤 𝓛 mem run κ a. refl;
   promises = λ M 𝓤 𝓛 mem run κ a g r e. refl;
   once = λ κ a r r' ws ws' p q.
-      let e = at_exit face_state_to.ended κ a ws in
-      let e' = at_exit face_state_to.ended κ a ws' in
-      let s = face_all.state_to_settled κ a r r' e e' p q in
+      let e = at_exit face_requests_ReplaceArgsFromCRequest_from.ended κ a ws in
+      let e' = at_exit face_requests_ReplaceArgsFromCRequest_from.ended κ a ws' in
+      let s = face_all.replace_args_from_c_request_from_settled κ a r r' e e' p q in
+      (s, refl);
+}
+
+pub settled_face_requests_RequestTryFromCRequest_try_from :
+    Settled face_requests_RequestTryFromCRequest_try_from.ended (λ M 𝓤 𝓛. face_requests_RequestTryFromCRequest_try_from.clauses 𝓛) (λ κ r. r)
+settled_face_requests_RequestTryFromCRequest_try_from = record {
+  Post = λ κ a r e. _;
+  asks_nothing = λ M 𝓤 𝓛 mem run κ a g. refl;
+  asks_no_ghost = λ M 𝓤 𝓛 mem run κ a. refl;
+  promises = λ M 𝓤 𝓛 mem run κ a g r e. refl;
+  once = λ κ a r r' ws ws' p q.
+      let e = at_exit face_requests_RequestTryFromCRequest_try_from.ended κ a ws in
+      let e' = at_exit face_requests_RequestTryFromCRequest_try_from.ended κ a ws' in
+      let s = face_all.request_try_from_c_request_try_from_settled κ a r r' e e' p q in
+      (s, refl);
+}
+
+pub settled_face_requests_ReturnHostArgsFromCRequest_from :
+    Settled face_requests_ReturnHostArgsFromCRequest_from.ended (λ M 𝓤 𝓛. face_requests_ReturnHostArgsFromCRequest_from.clauses 𝓛) (λ κ r. r)
+settled_face_requests_ReturnHostArgsFromCRequest_from = record {
+  Post = λ κ a r e. _;
+  asks_nothing = λ M 𝓤 𝓛 mem run κ a g. refl;
+  asks_no_ghost = λ M 𝓤 𝓛 mem run κ a. refl;
+  promises = λ M 𝓤 𝓛 mem run κ a g r e. refl;
+  once = λ κ a r r' ws ws' p q.
+      let e = at_exit face_requests_ReturnHostArgsFromCRequest_from.ended κ a ws in
+      let e' = at_exit face_requests_ReturnHostArgsFromCRequest_from.ended κ a ws' in
+      let s = face_all.return_host_args_from_c_request_from_settled κ a r r' e e' p q in
+      (s, refl);
+}
+
+pub settled_face_state_CStateFromState_from :
+    Settled face_state_CStateFromState_from.ended (λ M 𝓤 𝓛. face_state_CStateFromState_from.clauses 𝓛) (λ κ r. r)
+settled_face_state_CStateFromState_from = record {
+  Post = λ κ a r e. _;
+  asks_nothing = λ M 𝓤 𝓛 mem run κ a g. refl;
+  asks_no_ghost = λ M 𝓤 𝓛 mem run κ a. refl;
+  promises = λ M 𝓤 𝓛 mem run κ a g r e. refl;
+  once = λ κ a r r' ws ws' p q.
+      let e = at_exit face_state_CStateFromState_from.ended κ a ws in
+      let e' = at_exit face_state_CStateFromState_from.ended κ a ws' in
+      let s = face_all.c_state_from_state_from_settled κ a r r' e e' p q in
+      (s, refl);
+}
+
+pub settled_face_state_StateFromCState_from :
+    Settled face_state_StateFromCState_from.ended (λ M 𝓤 𝓛. face_state_StateFromCState_from.clauses 𝓛) (λ κ r. r)
+settled_face_state_StateFromCState_from = record {
+  Post = λ κ a r e. _;
+  asks_nothing = λ M 𝓤 𝓛 mem run κ a g. refl;
+  asks_no_ghost = λ M 𝓤 𝓛 mem run κ a. refl;
+  promises = λ M 𝓤 𝓛 mem run κ a g r e. refl;
+  once = λ κ a r r' ws ws' p q.
+      let e = at_exit face_state_StateFromCState_from.ended κ a ws in
+      let e' = at_exit face_state_StateFromCState_from.ended κ a ws' in
+      let s = face_all.state_from_c_state_from_settled κ a r r' e e' p q in
       (s, refl);
 }
 
@@ -2564,6 +2690,62 @@ settled_face_leaves_cattlecleat_zero_registers = record {
       let e' = at_exit face_leaves_cattlecleat_zero_registers.ended κ a ws' in
       let s = face_leaves_all.cattlecleat_zero_registers_settled κ a r r' e e' p q in
       (refl, λ i. (at_last a.0 (s i), tt));
+}
+
+pub settled_face_leaves_slot_CReasonFromDoneReason_from :
+    Settled face_leaves_slot_CReasonFromDoneReason_from.ended (λ M 𝓤 𝓛. face_leaves_slot_CReasonFromDoneReason_from.clauses 𝓛) (λ κ r. r)
+settled_face_leaves_slot_CReasonFromDoneReason_from = record {
+  Post = λ κ a r e. _;
+  asks_nothing = λ M 𝓤 𝓛 mem run κ a g. refl;
+  asks_no_ghost = λ M 𝓤 𝓛 mem run κ a. refl;
+  promises = λ M 𝓤 𝓛 mem run κ a g r e. refl;
+  once = λ κ a r r' ws ws' p q.
+      let e = at_exit face_leaves_slot_CReasonFromDoneReason_from.ended κ a ws in
+      let e' = at_exit face_leaves_slot_CReasonFromDoneReason_from.ended κ a ws' in
+      let s = face_leaves_all.c_reason_from_done_reason_from_settled κ a r r' e e' p q in
+      (s, refl);
+}
+
+pub settled_face_leaves_slot_CReasonFromDoneSlot_from :
+    Settled face_leaves_slot_CReasonFromDoneSlot_from.ended (λ M 𝓤 𝓛. face_leaves_slot_CReasonFromDoneSlot_from.clauses 𝓛) (λ κ r. r)
+settled_face_leaves_slot_CReasonFromDoneSlot_from = record {
+  Post = λ κ a r e. _;
+  asks_nothing = λ M 𝓤 𝓛 mem run κ a g. refl;
+  asks_no_ghost = λ M 𝓤 𝓛 mem run κ a. refl;
+  promises = λ M 𝓤 𝓛 mem run κ a g r e. refl;
+  once = λ κ a r r' ws ws' p q.
+      let e = at_exit face_leaves_slot_CReasonFromDoneSlot_from.ended κ a ws in
+      let e' = at_exit face_leaves_slot_CReasonFromDoneSlot_from.ended κ a ws' in
+      let s = face_leaves_all.c_reason_from_done_slot_from_settled κ a r r' e e' p q in
+      (s, refl);
+}
+
+pub settled_face_leaves_slot_DoneReasonFromCReason_from :
+    Settled face_leaves_slot_DoneReasonFromCReason_from.ended (λ M 𝓤 𝓛. face_leaves_slot_DoneReasonFromCReason_from.clauses 𝓛) (λ κ r. r)
+settled_face_leaves_slot_DoneReasonFromCReason_from = record {
+  Post = λ κ a r e. _;
+  asks_nothing = λ M 𝓤 𝓛 mem run κ a g. refl;
+  asks_no_ghost = λ M 𝓤 𝓛 mem run κ a. refl;
+  promises = λ M 𝓤 𝓛 mem run κ a g r e. refl;
+  once = λ κ a r r' ws ws' p q.
+      let e = at_exit face_leaves_slot_DoneReasonFromCReason_from.ended κ a ws in
+      let e' = at_exit face_leaves_slot_DoneReasonFromCReason_from.ended κ a ws' in
+      let s = face_leaves_all.done_reason_from_c_reason_from_settled κ a r r' e e' p q in
+      (s, refl);
+}
+
+pub settled_face_leaves_slot_DoneSlotFromCReason_from :
+    Settled face_leaves_slot_DoneSlotFromCReason_from.ended (λ M 𝓤 𝓛. face_leaves_slot_DoneSlotFromCReason_from.clauses 𝓛) (λ κ r. r)
+settled_face_leaves_slot_DoneSlotFromCReason_from = record {
+  Post = λ κ a r e. _;
+  asks_nothing = λ M 𝓤 𝓛 mem run κ a g. refl;
+  asks_no_ghost = λ M 𝓤 𝓛 mem run κ a. refl;
+  promises = λ M 𝓤 𝓛 mem run κ a g r e. refl;
+  once = λ κ a r r' ws ws' p q.
+      let e = at_exit face_leaves_slot_DoneSlotFromCReason_from.ended κ a ws in
+      let e' = at_exit face_leaves_slot_DoneSlotFromCReason_from.ended κ a ws' in
+      let s = face_leaves_all.done_slot_from_c_reason_from_settled κ a r r' e e' p q in
+      (s, refl);
 }
 
 pub settled_face_place_cattlecleat_host_part_in_place :
@@ -2816,4 +2998,32 @@ settled_face_replay_cattlecleat_replay = record {
       let e' = at_exit face_replay_cattlecleat_replay.ended κ a ws' in
       let s = face_replay_all.cattlecleat_replay_settled κ a r r' e e' p q in
       (λ i. (s i).0, λ i. (a.0, (at_last a.1.0 (s i).1.0, (at_last a.1.1.0 (s i).1.1, (a.1.1.1.0, tt)))));
+}
+
+pub settled_face_replay_tapes_TapeFromCTape_from :
+    Settled face_replay_tapes_TapeFromCTape_from.ended (λ M 𝓤 𝓛. face_replay_tapes_TapeFromCTape_from.clauses 𝓛) (λ κ r. r)
+settled_face_replay_tapes_TapeFromCTape_from = record {
+  Post = λ κ a r e. _;
+  asks_nothing = λ M 𝓤 𝓛 mem run κ a g. refl;
+  asks_no_ghost = λ M 𝓤 𝓛 mem run κ a. refl;
+  promises = λ M 𝓤 𝓛 mem run κ a g r e. refl;
+  once = λ κ a r r' ws ws' p q.
+      let e = at_exit face_replay_tapes_TapeFromCTape_from.ended κ a ws in
+      let e' = at_exit face_replay_tapes_TapeFromCTape_from.ended κ a ws' in
+      let s = face_replay_all.tape_from_c_tape_from_settled κ a r r' e e' p q in
+      (s, refl);
+}
+
+pub settled_face_replay_traces_RunFromCRun_from :
+    Settled face_replay_traces_RunFromCRun_from.ended (λ M 𝓤 𝓛. face_replay_traces_RunFromCRun_from.clauses 𝓛) (λ κ r. r)
+settled_face_replay_traces_RunFromCRun_from = record {
+  Post = λ κ a r e. _;
+  asks_nothing = λ M 𝓤 𝓛 mem run κ a g. refl;
+  asks_no_ghost = λ M 𝓤 𝓛 mem run κ a. refl;
+  promises = λ M 𝓤 𝓛 mem run κ a g r e. refl;
+  once = λ κ a r r' ws ws' p q.
+      let e = at_exit face_replay_traces_RunFromCRun_from.ended κ a ws in
+      let e' = at_exit face_replay_traces_RunFromCRun_from.ended κ a ws' in
+      let s = face_replay_all.run_from_c_run_from_settled κ a r r' e e' p q in
+      (s, refl);
 }

@@ -4,17 +4,17 @@ use mathlib.Core.Bool.{true, false, true≢false, false≢true}
 use mathlib.Core.Logic.{◌↔◌, ◌⊎◌, inl, inr}
 use Prim.Native.Nat.{ℕ}
 use native.Mathlib.Omega.{arith}
+use Rattle.std.specs.Prelude.{Option, Some, None}
 use Rattle.choice.specs.Choose.{choose}
 use Rattle.choice.specs.Tests.{FirstIs, here, there}
 use Rattle.choice.proofs.Verdict.{Verdict, passes, fails, verdict, accepts, refuses}
-use Rattle.regs.specs.declared.align.Aligned.{Aligned}
-use Rattle.regs.specs.declared.align.Aligned.TheVariants.{At, Refused}
+use Rattle.std.specs.Prelude.{Result, Ok, Err}
+use Rattle.regs.specs.declared.align.NoAddress.{NoAddress}
 use Rattle.regs.specs.Align.{aligned_address, align_tests, ShownAligned, shown_aligned, align_refused, align_done, aligned, Unalignable}
 use Rattle.regs.proofs.Exactly.{exactly_15}
 use Rattle.done.specs.declared.DoneReason.{DoneReason}
 use Rattle.done.specs.declared.DoneSlot.{DoneSlot}
-use Rattle.done.specs.declared.DoneSlot.TheVariants.{Empty, Holds}
-use Rattle.done.specs.Done.{is_filled, ShownFill, fill_tests, fill_refused, fill_done, filled, ShownTake, take_tests, take_refused, take_done, taken}
+use Rattle.done.specs.Done.{no_reason, holds_reason, is_filled, ShownFill, fill_tests, fill_refused, fill_done, filled, ShownTake, take_tests, take_refused, take_done, taken}
 use Rattle.face_leaves.specs.declared.slot.CReason.{CReason}
 use Rattle.face_leaves.specs.Slots.{slot_said, filled_told, taken_told}
 use Rattle.face_leaves.proofs.Slotted.{slot_kept}
@@ -29,8 +29,11 @@ FilledEither s reason f = (f.number ≡ 12 ↔ is_filled s ≡ true) × ((f ≡ 
 
 filled_either : (s : DoneSlot) (reason : DoneReason) → FilledEither s reason (filled s reason)
 unfolding filled fill_tests choose
-filled_either Empty reason = ((λ e. absurd (omega arith), λ e. absurd (false≢true e)), inr refl)
-filled_either (Holds held) reason = ((λ e. refl, λ e. refl), inl refl)
+filled_either s reason = by s.reason
+  where
+    by : (o : Option DoneReason) → FilledEither (record { reason = o }) reason (filled (record { reason = o }) reason)
+    by None = ((λ e. absurd (omega arith), λ e. absurd (false≢true e)), inr refl)
+    by (Some held) = ((λ e. refl, λ e. refl), inl refl)
 
 fill_said_lem : (c : CReason) (reason : DoneReason) → fill_said (filled_told c (filled (slot_said c) reason)) ≡ filled (slot_said c) reason
 unfolding choose
@@ -44,7 +47,7 @@ fill_said_lem c reason = by (filled_either (slot_said c) reason).1
     kept = refl
 
     done : fill_said (filled_told c (fill_done reason)) ≡ fill_done reason
-    done = λ i. record { number = 0; slot = slot_kept (Holds reason) i }
+    done = λ i. record { number = 0; slot = slot_kept (holds_reason reason) i }
 
     by : (filled (slot_said c) reason ≡ fill_refused (slot_said c) 12) ⊎ (filled (slot_said c) reason ≡ fill_done reason)
         → fill_said (filled_told c (filled (slot_said c) reason)) ≡ filled (slot_said c) reason
@@ -65,8 +68,11 @@ TakenEither s t = (t.number ≡ 13 ↔ is_filled s ≡ false) × ((t ≡ take_re
 
 taken_either : (s : DoneSlot) → TakenEither s (taken s)
 unfolding taken take_tests choose
-taken_either Empty = ((λ e. refl, λ e. refl), inl refl)
-taken_either (Holds held) = ((λ e. absurd (omega arith), λ e. absurd (true≢false e)), inr refl)
+taken_either s = by s.reason
+  where
+    by : (o : Option DoneReason) → TakenEither (record { reason = o }) (taken (record { reason = o }))
+    by None = ((λ e. refl, λ e. refl), inl refl)
+    by (Some held) = ((λ e. absurd (omega arith), λ e. absurd (true≢false e)), inr refl)
 
 take_said_lem : (c : CReason) → take_said (taken_told c (taken (slot_said c))) ≡ taken (slot_said c)
 unfolding choose
@@ -79,7 +85,7 @@ take_said_lem c = by (taken_either (slot_said c)).1
     kept = refl
 
     done : take_said (taken_told c (take_done (slot_said c))) ≡ take_done (slot_said c)
-    done = λ i. record { number = 0; reason = (take_done (slot_said c)).reason; value = (take_done (slot_said c)).value; slot = slot_kept Empty i }
+    done = λ i. record { number = 0; reason = (take_done (slot_said c)).reason; value = (take_done (slot_said c)).value; slot = slot_kept no_reason i }
 
     by : (taken (slot_said c) ≡ take_refused (slot_said c) 13) ⊎ (taken (slot_said c) ≡ take_done (slot_said c))
         → take_said (taken_told c (taken (slot_said c))) ≡ taken (slot_said c)
@@ -110,17 +116,17 @@ module _ (ip base : ℕ) where
   unfolding aligned align_tests
   aligned_either = by (verdict (align_tests ip base))
     where
-      as_answered : (r : Aligned) → shown_aligned r ≡ aligned ip base → (aligned ip base).number ≡ 15 ↔ Unalignable ip base
+      as_answered : (r : Result ℕ NoAddress) → shown_aligned r ≡ aligned ip base → (aligned ip base).number ≡ 15 ↔ Unalignable ip base
       as_answered r p = subst (λ (t : ShownAligned). t.number ≡ 15 ↔ Unalignable ip base) p (exactly_15 ip base r (ip, (base, tt)) p)
 
       by : Verdict (align_tests ip base) → AlignedEither (aligned ip base)
       by (passes p) =
           let e = accepts align_refused (align_done ip base) (align_tests ip base) p in
-          (as_answered (At (aligned_address ip base)) (sym e), inr e)
+          (as_answered (Ok (aligned_address ip base)) (sym e), inr e)
       by (fails n p) =
           let e = refuses align_refused (align_done ip base) p in
           let one = fifteen p in
-          (as_answered Refused (sym (e ∙ ap align_refused one)), inl (e ∙ ap align_refused one))
+          (as_answered (Err (record {})) (sym (e ∙ ap align_refused one)), inl (e ∙ ap align_refused one))
 
 align_heard : {ip base : ℕ} {t : ShownAligned} → AlignHeard ip base t → t ≡ aligned ip base
 align_heard (by_align_relative_to κ a r e p) = p

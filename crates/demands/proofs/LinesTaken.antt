@@ -22,7 +22,7 @@ pub lines_told_lem : {t u : Taping} {bs : List (List ℕ)} {text : List ℕ} →
 unfolding fed_all lines_fed_all
 lines_told_lem (lines_end t) = (refl, refl)
 lines_told_lem (listed_then κ a r e used p done bs text u rest) =
-    let t = taping_of a.0 a.1.0.now a.1.1.0.now in
+    let t = taping_of a.0.now a.1.0.now a.1.1.0.now in
     let block = a.1.1.1.0.now in
     let zero : (list_feeding t block a.1.1.1.1.0.now).number ≡ 0 = sym (ap (λ (s : ShownLines). s.number) p) ∙ ap fed_lines_number done in
     let wrote = feed_texts t block a.1.1.1.1.0.now (fed_verdict t block a.1.1.1.1.0.now) zero in
@@ -37,13 +37,13 @@ lines_told_lem (listed_then κ a r e used p done bs text u rest) =
 -- the end, and the lines behind
 pub blocks_listed : BlocksListed
 blocks_listed v bs text t history κ a r e used p done same ι b n f q run room =
-    let u = taping_of a.0 a.1.0.now a.1.1.0.now in
+    let u = taping_of a.0.now a.1.0.now a.1.1.0.now in
     let out = a.1.1.1.0.now in
     let so_far = lines_told_lem history in
     let there : u ≡ fed_all (begun v) bs = same ∙ so_far.0 in
     let zero : (list_telling u out).number ≡ 0 = sym (ap (λ (s : ShownLines). s.number) p) ∙ ap fed_lines_number done in
     let wrote = end_texts u out (end_verdict u out) zero in
-    let tape : taping_of r.tape e.1.0.now e.1.1.0.now ≡ end_told (fed_all (begun v) bs) =
+    let tape : taping_of e.0.now e.1.0.now e.1.1.0.now ≡ end_told (fed_all (begun v) bs) =
     ap (λ (s : ShownLines). s.tape) p ∙ wrote.0 ∙ ap end_told there in
     let ending : take used e.1.1.1.0.now ≡ lines_told (fed_all (begun v) bs) =
     ap (λ k. take k e.1.1.1.0.now) (sym (ap fed_lines_used done)) ∙ ap (λ (s : ShownLines). take s.used s.out) p ∙ wrote.1
@@ -58,7 +58,7 @@ blocks_listed v bs text t history κ a r e used p done same ι b n f q run room 
 pub no_room_for_lines : NoRoomForLines
 no_room_for_lines = (
   λ κ a r e p.
-      let t = taping_of a.0 a.1.0.now a.1.1.0.now in
+      let t = taping_of a.0.now a.1.0.now a.1.1.0.now in
       let block = a.1.1.1.0.now in
       let out = a.1.1.1.1.0.now in
       let number = ap (λ (s : ShownLines). s.number) p in (
@@ -74,7 +74,7 @@ no_room_for_lines = (
             ),
       ),
   λ κ a r e p.
-      let t = taping_of a.0 a.1.0.now a.1.1.0.now in
+      let t = taping_of a.0.now a.1.0.now a.1.1.0.now in
       let out = a.1.1.1.0.now in
       let number = ap (λ (s : ShownLines). s.number) p in (
         subst (λ n. (n ≡ 19) ↔ ((end_rests t ≡ false) × (length out < end_lines_room t))) (sym number) (end_19 t out (end_verdict t out)),

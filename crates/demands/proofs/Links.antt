@@ -3,6 +3,7 @@
 --     link_ran, link_above           one link
 --     history_ran, history_above     a history ends where its events lead, and the depth is never below
 --     ran_join                       events one after another
+use Rattle.std.specs.Prelude.{is_some, Ok, Err}
 use mathlib.Core.Path.{◌≡◌, refl, sym, ap, subst, ◌∙◌}
 use mathlib.Core.Bool.{Bool, true, false}
 use mathlib.Core.List.{List, [], ◌∷◌, ◌++◌}
@@ -10,14 +11,13 @@ use Prim.Native.Nat.{ℕ, ◌≤◌}
 use native.Mathlib.Omega.{arith}
 use lib.Dec.{leb, ltb}
 use lib.ListN.{length}
+use Rattle.std.specs.Prelude.{Result}
 use Rattle.choice.specs.Choose.{choose}
-use Rattle.given.specs.Given.{is_given}
 use Rattle.rules.specs.World.{World}
 use Rattle.rules.specs.Answers.{After, refused_with}
 use Rattle.rules.specs.Events.{Event, stepped_by, ran_through}
 use Rattle.rules.specs.Returning.{NeverBelow}
-use Rattle.request.specs.declared.Decoded.{Decoded}
-use Rattle.request.specs.declared.Decoded.TheVariants.{Asks, Bad}
+use Rattle.request.specs.Requests.{Decoded}
 use Rattle.request.specs.Entries.{record_count, entry_at, entries_in}
 use Rattle.replay.specs.Running.{Running, running_of, ShownRan, stopped_before, answer_to, ran, ran_all, replayed}
 use Rattle.replay.specs.Turns.{ShownTurn, turn_at}
@@ -27,7 +27,7 @@ use Rattle.tape.specs.Tapes.{Taping, taping_of, ShownFed}
 use Rattle.tape.specs.AnyCuts.{bytes_run}
 use Rattle.tape.proofs.AnyCuts.{runs_its_bytes}
 use Rattle.listing.specs.Blocks.{block_room, ListedBlock, block_listed}
-use Rattle.listing.specs.declared.taped.ListedFeeding.{ListedFeeding}
+use Rattle.listing.specs.declared.taped.LinesError.{LinesError}
 use Rattle.listing.specs.Taped.{ShownLines, fed_lines_number}
 use Rattle.listing.proofs.Written.{fed_verdict, feed_unmoved, end_verdict, end_unmoved}
 use Rattle.listing.proofs.list_feed.Reads as list-feeds
@@ -47,7 +47,7 @@ use Rattle.demands.proofs.Heard.{answer_said, numbers_said, heard_answered, part
 module _ (d : Decoded) (ds : List Decoded) where
   one_ran : {v : Running} {x : ShownRan} {costs : List ℕ} → RanVerdict v d x costs
       → (ran_all x.run ds).world ≡ ran_through x.run.world (events_ran x.run ds)
-      → (ran_all x.run ds).world ≡ ran_through v.world (choose (is_given x.run.stop) [] (events_by d (events_ran x.run ds)))
+      → (ran_all x.run ds).world ≡ ran_through v.world (choose (is_some x.run.stop) [] (events_by d (events_ran x.run ds)))
   unfolding choose ran_through stepped_by
   one_ran {v} (had_stopped e) rest = rw e (ap (λ u. u.world) (stop_stays v ds e))
   one_ran {v} (stops_before e k) rest = ap (λ u. u.world) (stop_stays (stopped_before v (record_cost v d)) ds refl)
@@ -55,8 +55,8 @@ module _ (d : Decoded) (ds : List Decoded) where
     where
       first : (c : Decoded) → ran_through (answer_to v.world c).world (events_ran (record_ran v d).run ds)
           ≡ ran_through v.world (events_by c (events_ran (record_ran v d).run ds))
-      first (Asks q) = refl
-      first Bad = refl
+      first (Ok q) = refl
+      first (Err e) = refl
 
 pub records_ran : (v : Running) (ds : List Decoded) → (ran_all v ds).world ≡ ran_through v.world (events_ran v ds)
 unfolding ran_all ran_through events_ran
@@ -66,7 +66,7 @@ records_ran v (d ∷ ds) = one_ran d ds (ran_verdict v d) (records_ran (ran v d)
 module _ (n : ℕ) (d : Decoded) (ds : List Decoded) where
   one_above : {v : Running} {x : ShownRan} {costs : List ℕ} → RanVerdict v d x costs → n ≤ v.world.state.count
       → NeverBelow n x.run.world (events_ran x.run ds)
-      → NeverBelow n v.world (choose (is_given x.run.stop) [] (events_by d (events_ran x.run ds)))
+      → NeverBelow n v.world (choose (is_some x.run.stop) [] (events_by d (events_ran x.run ds)))
   unfolding choose stepped_by
   one_above {v} (had_stopped e) deep rest = rw e deep
   one_above {v} (stops_before e k) deep rest = deep
@@ -74,8 +74,8 @@ module _ (n : ℕ) (d : Decoded) (ds : List Decoded) where
     where
       first : (c : Decoded) → NeverBelow n (answer_to v.world c).world (events_ran (record_ran v d).run ds)
           → NeverBelow n v.world (events_by c (events_ran (record_ran v d).run ds))
-      first (Asks q) above = (deep, above)
-      first Bad above = above
+      first (Ok q) above = (deep, above)
+      first (Err e) above = above
 
 pub records_above : (n : ℕ) (v : Running) (ds : List Decoded) → DepthKept n v ds → NeverBelow n v.world (events_ran v ds)
 unfolding events_ran
@@ -111,14 +111,14 @@ block_ran v bytes out = by (ltb (length out) (block_room (record_count (length b
     by false e = rw e (replay_ran v bytes)
 
 -- without room nothing moves
-unfed : (κ : _) (a : _) (r : ListedFeeding) (e : _) → list-feeds.Post κ a r e → fed_lines_number r.fed ≡ 19
-    → taping_of r.tape e.1.0.now e.1.1.0.now ≡ taping_of a.0 a.1.0.now a.1.1.0.now
+unfed : (κ : _) (a : _) (r : Result ℕ LinesError) (e : _) → list-feeds.Post κ a r e → fed_lines_number r ≡ 19
+    → taping_of e.0.now e.1.0.now e.1.1.0.now ≡ taping_of a.0.now a.1.0.now a.1.1.0.now
 unfed κ a r e p none =
     let number = ap (λ (s : ShownLines). s.number) p in
     ap (λ (s : ShownLines). s.tape) p ∙ (feed_unmoved _ _ _ (fed_verdict _ _ _) (let is = sym number ∙ none in omega arith)).0
 
-untold : (κ : _) (a : _) (r : ListedFeeding) (e : _) → list-finishes.Post κ a r e → fed_lines_number r.fed ≡ 19
-    → taping_of r.tape e.1.0.now e.1.1.0.now ≡ taping_of a.0 a.1.0.now a.1.1.0.now
+untold : (κ : _) (a : _) (r : Result ℕ LinesError) (e : _) → list-finishes.Post κ a r e → fed_lines_number r ≡ 19
+    → taping_of e.0.now e.1.0.now e.1.1.0.now ≡ taping_of a.0.now a.1.0.now a.1.1.0.now
 untold κ a r e p none =
     let number = ap (λ (s : ShownLines). s.number) p in
     ap (λ (s : ShownLines). s.tape) p ∙ (end_unmoved _ _ (end_verdict _ _) (let is = sym number ∙ none in omega arith)).0

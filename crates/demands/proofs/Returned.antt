@@ -1,10 +1,10 @@
 -- Demand 3 where hosts stand, from the return theorem of rules: what was heard is what the definitions answer. Assumes nothing.
 --     resumed_said         what rules concludes, field by field as it is written out there and here
 --     by_rules             what is assumed gives what rules assumes
+use Rattle.std.specs.Prelude.{Some}
 use mathlib.Core.Path.{◌≡◌, sym, ap, subst, ◌∙◌}
 use mathlib.Core.List.{List, ◌∷◌, ◌++◌}
 use Prim.Native.Nat.{ℕ, ◌<◌}
-use Rattle.given.specs.declared.Given.TheVariants.{Value}
 use Rattle.rules.specs.declared.PushArgs.{PushArgs}
 use Rattle.rules.specs.declared.Request.{Request}
 use Rattle.rules.specs.declared.Request.TheVariants.{Push}
@@ -29,7 +29,7 @@ resumed_said {w} {A} {p} {s} {es} {v} {i} {t} h = (resumed_pinned w A p s es v i
 
 module _ (w : World) (A : ℕ) (q : PushArgs) (call : After) (es : List Event) (v : World) (r : Request) (i : ℕ) (back : After)
     (has_caller : 0 < w.state.count)
-    (has_instance : w.state.current ≡ Value A)
+    (has_instance : w.state.current ≡ Some A)
     (call-heard : Heard w (Traced (Push q)) call)
     (call_accepted : Accepted call)
     (between : History call.world.state.count call.world es v)

@@ -23,13 +23,13 @@ taken_is (by_finish κ a r e p) = ap (λ u. fed_with u 0) p
 taken_is (by_cattlecleat_feed κ a r e p) = feed_tape_said κ a r e p
 taken_is (by_cattlecleat_finish κ a r e p) = ap (λ u. fed_with u 0) (finish_tape_said κ a r e p)
 taken_is (by_list_feed κ a r e p room) =
-    let t = taping_of a.0 a.1.0.now a.1.1.0.now in
+    let t = taping_of a.0.now a.1.0.now a.1.1.0.now in
     let block = a.1.1.1.0.now in
     let out = a.1.1.1.1.0.now in
     ap (λ (s : ShownLines). fed_with s.tape s.number) p
     ∙ feed_same t block out (fed_verdict t block out) (λ n. room (ap (λ (s : ShownLines). s.number) p ∙ n))
 taken_is (by_list_finish κ a r e p room) =
-    let t = taping_of a.0 a.1.0.now a.1.1.0.now in
+    let t = taping_of a.0.now a.1.0.now a.1.1.0.now in
     let out = a.1.1.1.0.now in
     ap (λ (s : ShownLines). fed_with s.tape s.number) p
     ∙ end_same t out (end_verdict t out) (λ n. room (ap (λ (s : ShownLines). s.number) p ∙ n))

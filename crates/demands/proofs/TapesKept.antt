@@ -1,11 +1,12 @@
 -- A tape that nothing moved comes back number for number; and any block of any tape can be taken. Assumes nothing.
+use Rattle.std.specs.Prelude.{is_some}
+use Rattle.std.specs.Bool.{then_some}
 use mathlib.Core.Path.{◌≡◌, refl, ap, subst, ◌∙◌}
 use mathlib.Core.Bool.{true}
 use mathlib.Core.Logic.{◌⊎◌, inl, inr}
 use mathlib.Core.List.{List}
 use Prim.Native.Nat.{ℕ, ◌≤◌}
 use native.Mathlib.Omega.{arith}
-use Rattle.given.specs.Given.{is_given, given_if}
 use Rattle.regs.specs.Convert.{truth_of}
 use Rattle.tape.specs.Tapes.{Taping, has_stopped, fed, ShownFed, fed_with, feeding, end_told}
 use Rattle.tape.specs.AnyCuts.{a_block, an_end}
@@ -26,7 +27,7 @@ module _ (c : CTape) (words cells : List ℕ) where
   t = taping_from c words cells
 
   stops : truth_of c.run.stopflag ≡ true → has_stopped t.run ≡ true
-  stops e = ap (λ b. is_given (given_if b c.run.cost)) e
+  stops e = ap (λ b. is_some (then_some b c.run.cost)) e
 
   -- refused, or stopped: the tape is as it was
   stays : (block : List ℕ) → (2 ≤ (feeding t block).number) ⊎ (truth_of c.run.stopflag ≡ true) → (n : ℕ) × (feeding t block ≡ fed_with t n)

@@ -4,9 +4,9 @@
 --     WordsAsTheyCame      of a request in place: the state, and whatever is lent to be written, holds what it held
 --     RunsAsTheyCame       of a trace of which no record is accepted
 --     TapesAsTheyCame      of a block that is refused, and of blocks and ends after a stop: the whole tape, with both buffers (document 02, T-01)
-use Rattle.std.specs.Prelude.{◌≡◌, true, false, ◌↔◌, ◌⊎◌, ℕ, ◌≤◌}
+use Rattle.std.specs.Prelude.{◌≡◌, true, false, ◌↔◌, ◌⊎◌, ℕ, ◌≤◌, Err}
 use Rattle.regs.specs.Convert.{truth_of}
-use Rattle.request.specs.declared.Decoded.TheVariants.{Bad}
+use Rattle.record.specs.Reading.{bad_record}
 use Rattle.request.specs.Entries.{entries_in}
 use Rattle.face.specs.Requests.{request_from}
 use Rattle.face_ask.specs.declared.answers.CAnswer.{CAnswer}
@@ -34,7 +34,7 @@ use Rattle.face_replay.proofs.cattlecleat_feed.Reads as c-feed
 use Rattle.face_replay.proofs.cattlecleat_finish.Reads as c-finish
 
 abbrev pub NumbersAsked : Type 0
-NumbersAsked = (κ : _) (a : _) (r : CAnswer) (e : _) → c-ask.Post κ a r e → r.number ≡ 10 ↔ request_from a.1.1.1.0 ≡ Bad
+NumbersAsked = (κ : _) (a : _) (r : CAnswer) (e : _) → c-ask.Post κ a r e → r.number ≡ 10 ↔ request_from a.1.1.1.0 ≡ Err bad_record
 
 -- a register sync is lent both buffers to read
 abbrev pub StatesAsTheyCame : Type 0

@@ -5,7 +5,7 @@
 --     Heard w a t            a function was called in world w to ask for a, and by its promise showed and left t
 --     RoutineHeard w f t     so of `call_host`, which asks for a host's part and has a routine write there
 --     routine_writes w f      what that routine writes: nothing where it is refused
-use Rattle.std.specs.Prelude.{◌≡◌, List, [], ◌∷◌, ℕ, ◌≤◌, length, take}
+use Rattle.std.specs.Prelude.{◌≡◌, List, [], ◌∷◌, ℕ, ◌≤◌, length, take, Ok}
 use Rattle.choice.specs.Tests.{settle}
 use Rattle.regs.specs.declared.registers.Registers.{Registers}
 use Rattle.cells.specs.declared.host.HostFrame.{HostFrame}
@@ -19,7 +19,6 @@ use Rattle.rules.specs.declared.Asked.TheVariants.{Traced, SyncRegs, HostPart}
 use Rattle.rules.specs.World.{World, world_of}
 use Rattle.rules.specs.Answers.{no_values, shown_of, After, after_of, shown_outcome}
 use Rattle.rules.specs.Hosts.{part_tests}
-use Rattle.request.specs.declared.Decoded.TheVariants.{Asks}
 use Rattle.stack.proofs.sync_regs.Reads as sync-regs
 use Rattle.stack.proofs.reset.Reads as reset
 use Rattle.stack.proofs.restore_frame.Reads as restore-frame
@@ -106,7 +105,7 @@ pub data Heard : World → Asked → After → Type 0 where
   by_ask : (κ : _) (a : _) (r : Outcome) (e : _) → ask-any.Post κ a r e
       → Heard (world_of a.0 a.1.0.now a.1.1.0.now) (Traced a.1.1.1.0) (shown_outcome r e.1.0.now e.1.1.0.now)
   -- numbers that say a request; for those that say none see Links
-  by_cattlecleat_ask : (κ : _) (a : _) (r : CAnswer) (e : _) → c-ask.Post κ a r e → (q : Request) → request_from a.1.1.1.0 ≡ Asks q
+  by_cattlecleat_ask : (κ : _) (a : _) (r : CAnswer) (e : _) → c-ask.Post κ a r e → (q : Request) → request_from a.1.1.1.0 ≡ Ok q
       → Heard (world_said a.0 a.1.0.now a.1.1.0.now) (Traced q) (after_said r e.1.0.now e.1.1.0.now)
   by_cattlecleat_sync_registers : (κ : _) (a : _) (r : CAnswer) (e : _) → c-sync-registers.Post κ a r e
       → Heard (world_said a.0 a.1.0.now a.1.1.0.now) (SyncRegs a.1.1.1.0) (after_said r a.1.0.now a.1.1.0.now)

@@ -3,14 +3,12 @@
 --     AlignHeard ip base t               an address was asked for, and t was answered
 --     SlotsFilled, SlotsTaken            12 exactly where the slot is filled, 13 exactly where it is empty; and then the slot stays as it was
 --     AddressesAligned                   15 exactly where document 01 says so
-use Rattle.std.specs.Prelude.{◌≡◌, true, false, ◌↔◌, ◌⊎◌, ℕ}
-use Rattle.regs.specs.declared.align.Aligned.{Aligned}
+use Rattle.std.specs.Prelude.{◌≡◌, true, false, ◌↔◌, ◌⊎◌, ℕ, Result}
+use Rattle.regs.specs.declared.align.NoAddress.{NoAddress}
 use Rattle.regs.specs.Align.{ShownAligned, shown_aligned, align_refused, align_done, Unalignable}
 use Rattle.regs.proofs.align_relative_to.Reads as align-relative-to
 use Rattle.done.specs.declared.DoneReason.{DoneReason}
 use Rattle.done.specs.declared.DoneSlot.{DoneSlot}
-use Rattle.done.specs.declared.AfterFill.{AfterFill}
-use Rattle.done.specs.declared.AfterTake.{AfterTake}
 use Rattle.done.specs.Done.{is_filled, ShownFill, shown_fill, fill_refused, fill_done, ShownTake, shown_take, take_refused, take_done}
 use Rattle.done.proofs.DoneSlot.done_with.Reads as done-with
 use Rattle.done.proofs.DoneSlot.take_done_reason.Reads as take-done-reason
@@ -35,16 +33,16 @@ align_said r = record { number = r.number; address = r.address }
 -- ---- what was heard
 
 pub data FillHeard : DoneSlot → DoneReason → ShownFill → Type 0 where
-  by_done_with : (κ : _) (a : _) (r : AfterFill) (e : _) → done-with.Post κ a r e → FillHeard a.0 a.1.0 (shown_fill r)
+  by_done_with : (κ : _) (a : _) (r : _) (e : _) → done-with.Post κ a r e → FillHeard a.0 a.1.0 (shown_fill r.0 r.1)
   by_cattlecleat_done_with : (κ : _) (a : _) (r : CDone) (e : _) → c-done-with.Post κ a r e
       → FillHeard (slot_said a.0) (reason_said a.1.0) (fill_said r)
 
 pub data TakeHeard : DoneSlot → ShownTake → Type 0 where
-  by_take_done_reason : (κ : _) (a : _) (r : AfterTake) (e : _) → take-done-reason.Post κ a r e → TakeHeard a.0 (shown_take r)
+  by_take_done_reason : (κ : _) (a : _) (r : _) (e : _) → take-done-reason.Post κ a r e → TakeHeard a.0 (shown_take r.0 r.1)
   by_cattlecleat_take_done_reason : (κ : _) (a : _) (r : CDone) (e : _) → c-take-done-reason.Post κ a r e → TakeHeard (slot_said a.0) (take_said r)
 
 pub data AlignHeard : (ip base : ℕ) → ShownAligned → Type 0 where
-  by_align_relative_to : (κ : _) (a : _) (r : Aligned) (e : _) → align-relative-to.Post κ a r e → AlignHeard a.0 a.1.0 (shown_aligned r)
+  by_align_relative_to : (κ : _) (a : _) (r : Result ℕ NoAddress) (e : _) → align-relative-to.Post κ a r e → AlignHeard a.0 a.1.0 (shown_aligned r)
   by_cattlecleat_align : (κ : _) (a : _) (r : CAligned) (e : _) → c-align.Post κ a r e → AlignHeard a.0 a.1.0 (align_said r)
 
 -- ---- the statements

@@ -6,20 +6,19 @@
 --     InPlace before after   registers that a function stores in place
 --     Link d w es u          one call, or one store of a host: from world w to world u, with these events; inside a trace the depth is d or more
 --     History d w es v       links one after another; in every world between them the depth is d or more
-use Rattle.std.specs.Prelude.{◌≡◌, refl, List, [], ◌∷◌, ◌++◌, ℕ, ◌≤◌, leb, ltb, length}
+use Rattle.std.specs.Prelude.{◌≡◌, refl, List, [], ◌∷◌, ◌++◌, ℕ, ◌≤◌, leb, ltb, length, Result, is_some, Ok, Err}
 use Rattle.std.proofs.lemmas.List.Edits.{sets}
 use Rattle.choice.specs.Choose.{choose}
 use Rattle.choice.specs.Promised.{Promised}
-use Rattle.given.specs.Given.{is_given}
 use Rattle.regs.specs.declared.registers.Registers.{Registers}
 use Rattle.cells.specs.declared.host.HostFrame.{HostFrame}
+use Rattle.record.specs.Reading.{bad_record}
 use Rattle.rules.specs.declared.Asked.{Asked}
 use Rattle.rules.specs.declared.Asked.TheVariants.{Traced, HostPart}
 use Rattle.rules.specs.World.{World, world_of}
 use Rattle.rules.specs.Answers.{After}
 use Rattle.rules.specs.Events.{Event, asks, host_wrote, registers_put}
-use Rattle.request.specs.declared.Decoded.{Decoded}
-use Rattle.request.specs.declared.Decoded.TheVariants.{Asks, Bad}
+use Rattle.request.specs.Requests.{Decoded}
 use Rattle.request.specs.Entries.{record_count, entry_at, entries_in}
 use Rattle.replay.specs.declared.run.Run.{Run}
 use Rattle.replay.specs.declared.run.Ran.{Ran}
@@ -32,7 +31,7 @@ use Rattle.replay.proofs.run_next.Reads as turns
 use Rattle.tape.specs.Tapes.{Taping, ShownFed}
 use Rattle.tape.specs.AnyCuts.{Coming, bytes_run}
 use Rattle.listing.specs.declared.block.Listed.{Listed}
-use Rattle.listing.specs.declared.taped.ListedFeeding.{ListedFeeding}
+use Rattle.listing.specs.declared.taped.LinesError.{LinesError}
 use Rattle.listing.specs.Blocks.{block_room}
 use Rattle.listing.specs.Taped.{fed_lines_number}
 use Rattle.listing.proofs.list_block.Reads as lists
@@ -57,13 +56,13 @@ use Rattle.demands.specs.Taken.{Taken}
 
 -- one that reads badly asks for nothing
 abbrev pub events_by : Decoded → List Event → List Event
-events_by (Asks q) es = asks (Traced q) ∷ es
-events_by Bad es = es
+events_by (Ok q) es = asks (Traced q) ∷ es
+events_by (Err e) es = es
 
 -- where the run has stopped, nothing more is asked
 unfoldable pub events_ran : Running → List Decoded → List Event
 events_ran v [] = []
-events_ran v (d ∷ ds) = choose (is_given (ran v d).run.stop) [] (events_by d (events_ran (ran v d).run ds))
+events_ran v (d ∷ ds) = choose (is_some (ran v d).run.stop) [] (events_by d (events_ran (ran v d).run ds))
 
 abbrev pub entries_here : List ℕ → (at : ℕ) → List Decoded
 entries_here bytes at = choose (leb (length bytes) at) [] (entry_at bytes at ∷ [])
@@ -75,7 +74,7 @@ entries_listed bytes out = choose (ltb (length out) (block_room (record_count (l
 abbrev pub entries_coming : Taping → Coming → List Decoded
 entries_coming t c = entries_in (bytes_run t c)
 
--- ---- registers in place. These functions are proved by hand and have no `Reads`: their promise is what the checker made of their `clauses`
+-- ---- registers in place. Their promise is what the checker made of their `clauses`
 
 abbrev pub put_ireg_says : Promised c-put-ireg.ended (λ M 𝓤 𝓛. c-put-ireg.clauses 𝓛)
 put_ireg_says = record { Post = λ κ a r e. _; ensures = λ M 𝓤 𝓛 mem run κ a g r e. refl }
@@ -122,7 +121,7 @@ pub data Link (d : ℕ) : World → List Event → World → Type 0 where
   by_routine : (w : World) (f : HostFrame) (t : After) → RoutineHeard w f t
       → Link d w (asks (HostPart f) ∷ host_wrote f.start (routine_writes w f) ∷ []) t.world
   -- numbers that say no request
-  none_asked : (κ : _) (a : _) (r : CAnswer) (e : _) → c-ask.Post κ a r e → request_from a.1.1.1.0 ≡ Bad
+  none_asked : (κ : _) (a : _) (r : CAnswer) (e : _) → c-ask.Post κ a r e → request_from a.1.1.1.0 ≡ Err bad_record
       → Link d (world_said a.0 a.1.0.now a.1.1.0.now) [] (world_said r.state e.1.0.now e.1.1.0.now)
   -- the registers of a state that a host holds as numbers
   put_in_place : (s : CState) (words cells : List ℕ) (regs : Registers) → InPlace s.regs regs
@@ -152,10 +151,10 @@ pub data Link (d : ℕ) : World → List Event → World → Type 0 where
   came_next : (t : Taping) (c : Coming) (s : ShownFed) → Taken t c s → DepthKept d t.run (entries_coming t c)
       → Link d t.run.world (events_ran t.run (entries_coming t c)) s.tape.run.world
   -- a block, or an end, without room for its lines
-  no_room_to_feed : (κ : _) (a : _) (r : ListedFeeding) (e : _) → list-feeds.Post κ a r e → fed_lines_number r.fed ≡ 19
-      → Link d (world_of a.0.run.state a.1.0.now a.1.1.0.now) [] (world_of r.tape.run.state e.1.0.now e.1.1.0.now)
-  no_room_to_finish : (κ : _) (a : _) (r : ListedFeeding) (e : _) → list-finishes.Post κ a r e → fed_lines_number r.fed ≡ 19
-      → Link d (world_of a.0.run.state a.1.0.now a.1.1.0.now) [] (world_of r.tape.run.state e.1.0.now e.1.1.0.now)
+  no_room_to_feed : (κ : _) (a : _) (r : Result ℕ LinesError) (e : _) → list-feeds.Post κ a r e → fed_lines_number r ≡ 19
+      → Link d (world_of a.0.now.run.state a.1.0.now a.1.1.0.now) [] (world_of e.0.now.run.state e.1.0.now e.1.1.0.now)
+  no_room_to_finish : (κ : _) (a : _) (r : Result ℕ LinesError) (e : _) → list-finishes.Post κ a r e → fed_lines_number r ≡ 19
+      → Link d (world_of a.0.now.run.state a.1.0.now a.1.1.0.now) [] (world_of e.0.now.run.state e.1.0.now e.1.1.0.now)
   -- a block of a trace, with its lines
   by_list_block : (κ : _) (a : _) (r : Listed) (e : _) → lists.Post κ a r e
       → DepthKept d (running_of a.0 a.1.0.now a.1.1.0.now) (entries_listed a.1.1.1.0.now a.1.1.1.1.0.now)

@@ -6,19 +6,16 @@
 --     RecordsRead, RecordsWritten, RequestsDecoded, RequestsWalked      10 exactly then
 --     RecordsReadBack              a record written reads back as the same record, and so as the same request
 --     NumbersReadBack              over the C face: as numbers that say the same request
-use Rattle.std.specs.Prelude.{◌≡◌, false, ◌↔◌, ◌⊎◌, List, ℕ, ◌+◌, ◌≤◌, ◌<◌, length}
+use Rattle.std.specs.Prelude.{◌≡◌, ⊤, Result, false, ◌↔◌, ◌⊎◌, List, ℕ, ◌+◌, ◌≤◌, ◌<◌, length}
 use Rattle.record.specs.declared.Record.{Record}
-use Rattle.record.specs.declared.Read.{Read}
-use Rattle.record.specs.declared.Written.{Written}
+use Rattle.record.specs.declared.BadRecord.{BadRecord}
 use Rattle.record.specs.Form.{record_size, spare_in, FieldsFit}
 use Rattle.record.specs.Kinds.{lawful_record}
 use Rattle.record.specs.Reading.{part_at, record_at, ShownRead, read_number, read_refused, shown_read, ShownWrite, write_number, write_refused, write_done, shown_write}
 use Rattle.record.proofs.read_record.Reads as read-record
 use Rattle.record.proofs.write_record.Reads as write-record
 use Rattle.rules.specs.declared.Request.{Request}
-use Rattle.request.specs.declared.Decoded.{Decoded}
-use Rattle.request.specs.declared.Next.{Next}
-use Rattle.request.specs.Requests.{record_for}
+use Rattle.request.specs.Requests.{Decoded, Next, record_for}
 use Rattle.request.specs.Walk.{shown_decoded, ShownNext, next_asks, next_none, shown_next}
 use Rattle.request.proofs.request_of.Reads as request-of
 use Rattle.request.proofs.next_request.Reads as next-request
@@ -41,14 +38,14 @@ abbrev pub read_said : CRead → ShownRead
 read_said r = read_number r.number (record_spelt r.request)
 
 pub data ReadHeard : List ℕ → (at : ℕ) → ShownRead → Type 0 where
-  by_read_record : (κ : _) (a : _) (r : Read) (e : _) → read-record.Post κ a r e → ReadHeard a.0.now a.1.0 (shown_read r)
+  by_read_record : (κ : _) (a : _) (r : Result Record BadRecord) (e : _) → read-record.Post κ a r e → ReadHeard a.0.now a.1.0 (shown_read r)
   by_cattlecleat_read_record : (κ : _) (a : _) (r : CRead) (e : _) → c-read-record.Post κ a r e → ReadHeard a.0.now a.1.0 (read_said r)
 
 pub data WriteHeard : List ℕ → (at : ℕ) → Record → ShownWrite → Type 0 where
-  by_write_record : (κ : _) (a : _) (r : Written) (e : _) → write-record.Post κ a r e
+  by_write_record : (κ : _) (a : _) (r : Result ⊤ BadRecord) (e : _) → write-record.Post κ a r e
       → WriteHeard a.0.now a.1.0 a.1.1.0 (shown_write r e.0.now)
   -- a request's record
-  by_write_request : (κ : _) (a : _) (r : Written) (e : _) → write-request.Post κ a r e
+  by_write_request : (κ : _) (a : _) (r : Result ⊤ BadRecord) (e : _) → write-request.Post κ a r e
       → WriteHeard a.0.now a.1.0 (record_for a.1.1.0) (shown_write r e.0.now)
   -- the record that the numbers spell
   by_cattlecleat_write_record : (κ : _) (a : _) (r : ℕ) (e : _) → c-write-record.Post κ a r e

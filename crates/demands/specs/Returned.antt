@@ -4,8 +4,7 @@
 --     CallsReturn        of a call and a return that were heard, and a history in between: the caller is resumed; and no cell before the callee's start has
 --                        changed, where hosts keep to the parts that they are lent
 --     CallsInTraces      the same of a call and a return that stand anywhere among the events of a history, so also inside a trace
-use Rattle.std.specs.Prelude.{◌≡◌, List, ◌∷◌, ◌++◌, ℕ, ◌-◌, ◌<◌}
-use Rattle.given.specs.declared.Given.TheVariants.{Value}
+use Rattle.std.specs.Prelude.{◌≡◌, List, ◌∷◌, ◌++◌, ℕ, ◌-◌, ◌<◌, Some}
 use Rattle.frames.specs.Rows.{with_ip}
 use Rattle.frames.specs.Debts.{debt_of}
 use Rattle.rules.specs.declared.PushArgs.{PushArgs}
@@ -25,15 +24,15 @@ ResumedSaid w A p s es v i t =
     ((j : ℕ) → j < w.state.count - 1 → frame_at t.world j ≡ frame_at w j)
     × (frame_at t.world (w.state.count - 1) ≡ with_ip (top_frame w) p)
     -- the current instance is the one before the call
-    × (t.world.state.current ≡ Value A)
+    × (t.world.state.current ≡ Some A)
     -- the return's answer is 0, and it names p and the caller's start
     × (t.shown.number ≡ 0)
     × (t.shown.values.ip ≡ p)
     × (t.shown.values.offset ≡ top_start w)
     -- the instance that it names is A where the callee's frame has a debt, and where the return gives A, or the then-current instance
-    × ((d : ℕ) → debt_of (top_frame v) ≡ Value d → t.shown.values.instance ≡ A)
+    × ((d : ℕ) → debt_of (top_frame v) ≡ Some d → t.shown.values.instance ≡ A)
     × (i ≡ A → t.shown.values.instance ≡ A)
-    × (v.state.current ≡ Value i → t.shown.values.instance ≡ A)
+    × (v.state.current ≡ Some i → t.shown.values.instance ≡ A)
     -- no cell before the callee's start has changed, unless a host wrote it
     × ((k : ℕ) → k < s → Unwritten k es → cell_at t.world k ≡ cell_at w k)
 
@@ -42,7 +41,7 @@ CallsReturn =
     (w : World) (A : ℕ) (q : PushArgs) (call : After) (es : List Event) (v : World) (r : Request) (i : ℕ) (back : After)
     -- there is a caller's frame, and a current instance A
     → 0 < w.state.count
-    → w.state.current ≡ Value A
+    → w.state.current ≡ Some A
     -- a push is asked for, by any function, and accepted; then a history in which the depth never falls below the callee's
     → Heard w (Traced (Push q)) call
     → Accepted call
@@ -53,7 +52,7 @@ CallsReturn =
     → Accepted back
     → back.world.state.count ≡ w.state.count
     -- the push gave an ip, and the caller is resumed
-    → (q.caller ≡ Value (ip_given q))
+    → (q.caller ≡ Some (ip_given q))
     × ResumedSaid w A (ip_given q) call.shown.values.offset es v i back
     -- and where each host wrote only inside the part that the request just before handed out, no cell before the callee's start has changed
     × (KeepToParts no_host call.world es → (k : ℕ) → k < call.shown.values.offset → cell_at back.world k ≡ cell_at w k)
@@ -66,13 +65,13 @@ CallsInTraces =
     → (u : World)
     → u ≡ ran_through w before
     → 0 < u.state.count
-    → u.state.current ≡ Value A
+    → u.state.current ≡ Some A
     → Accepted (the_call u q)
     → NeverBelow (after_call u q).state.count (after_call u q) between
     → Gives r i
     → Accepted (the_return u q between r)
     → (the_return u q between r).world.state.count ≡ u.state.count
     -- the caller is resumed, and the history goes on from there
-    → (q.caller ≡ Value (ip_given q))
+    → (q.caller ≡ Some (ip_given q))
     × ResumedSaid u A (ip_given q) (callee_start u q) between (before_return u q between) i (the_return u q between r)
     × (v ≡ ran_through (the_return u q between r).world later)

@@ -4,8 +4,7 @@
 --     DebtSaid           and of its debt, where it was empty with the instance A current
 --     TailsKeep          of a history of these; and of a history of these that follows, or a return that was heard
 --     TailsInTraces      the same of these where they stand anywhere among the events of a history, so also inside a trace
-use Rattle.std.specs.Prelude.{◌≡◌, true, false, ◌↔◌, List, ◌++◌, ℕ, ◌-◌, ◌<◌}
-use Rattle.given.specs.declared.Given.TheVariants.{Absent, Value}
+use Rattle.std.specs.Prelude.{◌≡◌, true, false, ◌↔◌, List, ◌++◌, ℕ, ◌-◌, ◌<◌, None, Some}
 use Rattle.frames.specs.Debts.{debt_of}
 use Rattle.rules.specs.declared.ReplaceArgs.{ReplaceArgs}
 use Rattle.rules.specs.declared.Request.{Request}
@@ -31,21 +30,21 @@ TailsSaid w qs v =
 abbrev pub DebtSaid : (A : ℕ) (qs : List ReplaceArgs) (v : World) → Type 0
 DebtSaid A qs v =
     -- the debt is empty exactly while no accepted replace has named an instance other than A, and A exactly since one has
-    (debt_of (top_frame v) ≡ Absent ↔ other_named A qs ≡ false)
-    × (debt_of (top_frame v) ≡ Value A ↔ other_named A qs ≡ true)
+    (debt_of (top_frame v) ≡ None ↔ other_named A qs ≡ false)
+    × (debt_of (top_frame v) ≡ Some A ↔ other_named A qs ≡ true)
 
 abbrev pub TailsKeep : Type 0
 TailsKeep =
     (d : ℕ) (w : World) (es : List Event) (v : World) → History d w es v → AllTails es
     → TailsSaid w (accepted_replaces w es) v
     -- where the frame's debt is empty, with a current instance A
-    × ((A : ℕ) → debt_of (top_frame w) ≡ Absent → w.state.current ≡ Value A
+    × ((A : ℕ) → debt_of (top_frame w) ≡ None → w.state.current ≡ Some A
     → DebtSaid A (accepted_replaces w es) v
     -- from then on: whatever such history follows, also a replace that names A again
-    × (other_named A (accepted_replaces w es) ≡ true → (c : ℕ) (fs : List Event) (u : World) → History c v fs u → AllTails fs → debt_of (top_frame u) ≡ Value A)
+    × (other_named A (accepted_replaces w es) ≡ true → (c : ℕ) (fs : List Event) (u : World) → History c v fs u → AllTails fs → debt_of (top_frame u) ≡ Some A)
     -- a pop or a return-host is asked for, by any function, and accepted: A is current, if a caller's frame exists
     × (1 < w.state.count → (r : Request) (i : ℕ) (back : After) → Gives r i → Heard v (Traced r) back → Accepted back
-    → back.world.state.current ≡ Value A))
+    → back.world.state.current ≡ Some A))
 
 abbrev pub TailsInTraces : Type 0
 TailsInTraces =
@@ -55,10 +54,10 @@ TailsInTraces =
     → u ≡ ran_through w before
     → x ≡ ran_through u between
     → TailsSaid u (accepted_replaces u between) x
-    × ((A : ℕ) → debt_of (top_frame u) ≡ Absent → u.state.current ≡ Value A
+    × ((A : ℕ) → debt_of (top_frame u) ≡ None → u.state.current ≡ Some A
     → DebtSaid A (accepted_replaces u between) x
-    × (other_named A (accepted_replaces u between) ≡ true → (fs : List Event) → AllTails fs → debt_of (top_frame (ran_through x fs)) ≡ Value A)
+    × (other_named A (accepted_replaces u between) ≡ true → (fs : List Event) → AllTails fs → debt_of (top_frame (ran_through x fs)) ≡ Some A)
     × (1 < u.state.count → (r : Request) (i : ℕ) → Gives r i → Accepted (answered x (Traced r))
-    → (answered x (Traced r)).world.state.current ≡ Value A))
+    → (answered x (Traced r)).world.state.current ≡ Some A))
     -- and the history goes on from there
     × (v ≡ ran_through x later)

@@ -6,16 +6,16 @@
 -- nothing changes; BlocksBegin, a tape that `begin` made has gone through nothing; BlocksSoFar, BlocksWhole: whatever the cuts, the tape before the end
 -- depends on the bytes alone, and from the end on run, words and cells are those of the whole trace at once, whatever comes later;
 -- EmptyChangesNothing; StopStands, after a stop blocks and ends only repeat it; EndStands, a second end adds nothing.
-use Rattle.std.specs.Prelude.{◌≡◌, true, ◌↔◌, List, [], ◌∷◌, ◌++◌, ℕ, ◌≤◌, length}
+use Rattle.std.specs.Prelude.{◌≡◌, true, ◌↔◌, List, [], ◌∷◌, ◌++◌, ℕ, ◌≤◌, length, Result, ⊤}
 use Rattle.replay.specs.Running.{Running, running_of, replayed}
 use Rattle.tape.specs.declared.tape.Tape.{Tape}
-use Rattle.tape.specs.declared.tape.Feeding.{Feeding}
+use Rattle.tape.specs.declared.tape.AfterEnd.{AfterEnd}
 use Rattle.tape.specs.Tapes.{Taping, taping_of, begun, has_stopped, went_through, ShownFed, fed_with, shown_feeding, feeding, end_told}
 use Rattle.tape.specs.AnyCuts.{joined, Coming, a_block, an_end, blocks_of, EndedWithoutStop}
 use Rattle.tape.proofs.begin.Reads as begins
 use Rattle.tape.proofs.feed.Reads as feeds
 use Rattle.tape.proofs.finish.Reads as finishes
-use Rattle.listing.specs.declared.taped.ListedFeeding.{ListedFeeding}
+use Rattle.listing.specs.declared.taped.LinesError.{LinesError}
 use Rattle.listing.specs.Taped.{fed_lines_number}
 use Rattle.listing.proofs.list_feed.Reads as list-feeds
 use Rattle.listing.proofs.list_finish.Reads as list-finishes
@@ -30,22 +30,22 @@ came_answer t (a_block b) = feeding t b
 came_answer t an_end = fed_with (end_told t) 0
 
 pub data Taken : Taping → Coming → ShownFed → Type 0 where
-  by_feed : (κ : _) (a : _) (r : Feeding) (e : _) → feeds.Post κ a r e
-      → Taken (taping_of a.0 a.1.0.now a.1.1.0.now) (a_block a.1.1.1.0.now) (shown_feeding r e.1.0.now e.1.1.0.now)
-  by_finish : (κ : _) (a : _) (r : Tape) (e : _) → finishes.Post κ a r e
-      → Taken (taping_of a.0 a.1.0.now a.1.1.0.now) an_end (fed_with (taping_of r e.1.0.now e.1.1.0.now) 0)
+  by_feed : (κ : _) (a : _) (r : Result ⊤ AfterEnd) (e : _) → feeds.Post κ a r e
+      → Taken (taping_of a.0.now a.1.0.now a.1.1.0.now) (a_block a.1.1.1.0.now) (shown_feeding r e.0.now e.1.0.now e.1.1.0.now)
+  by_finish : (κ : _) (a : _) (r : ⊤) (e : _) → finishes.Post κ a r e
+      → Taken (taping_of a.0.now a.1.0.now a.1.1.0.now) an_end (fed_with (taping_of e.0.now e.1.0.now e.1.1.0.now) 0)
   by_cattlecleat_feed : (κ : _) (a : _) (r : CFed) (e : _) → c-feed.Post κ a r e
       → Taken (taping_from a.0 a.1.0.now a.1.1.0.now) (a_block a.1.1.1.0.now)
       (fed_with (taping_from r.tape e.1.0.now e.1.1.0.now) r.number)
   by_cattlecleat_finish : (κ : _) (a : _) (r : CTape) (e : _) → c-finish.Post κ a r e
       → Taken (taping_from a.0 a.1.0.now a.1.1.0.now) an_end (fed_with (taping_from r e.1.0.now e.1.1.0.now) 0)
   -- with its lines: without room for them, 19, nothing is taken
-  by_list_feed : (κ : _) (a : _) (r : ListedFeeding) (e : _) → list-feeds.Post κ a r e → (fed_lines_number r.fed ≡ 19 → ⊥)
-      → Taken (taping_of a.0 a.1.0.now a.1.1.0.now) (a_block a.1.1.1.0.now)
-      (fed_with (taping_of r.tape e.1.0.now e.1.1.0.now) (fed_lines_number r.fed))
-  by_list_finish : (κ : _) (a : _) (r : ListedFeeding) (e : _) → list-finishes.Post κ a r e → (fed_lines_number r.fed ≡ 19 → ⊥)
-      → Taken (taping_of a.0 a.1.0.now a.1.1.0.now) an_end
-      (fed_with (taping_of r.tape e.1.0.now e.1.1.0.now) (fed_lines_number r.fed))
+  by_list_feed : (κ : _) (a : _) (r : Result ℕ LinesError) (e : _) → list-feeds.Post κ a r e → (fed_lines_number r ≡ 19 → ⊥)
+      → Taken (taping_of a.0.now a.1.0.now a.1.1.0.now) (a_block a.1.1.1.0.now)
+      (fed_with (taping_of e.0.now e.1.0.now e.1.1.0.now) (fed_lines_number r))
+  by_list_finish : (κ : _) (a : _) (r : Result ℕ LinesError) (e : _) → list-finishes.Post κ a r e → (fed_lines_number r ≡ 19 → ⊥)
+      → Taken (taping_of a.0.now a.1.0.now a.1.1.0.now) an_end
+      (fed_with (taping_of e.0.now e.1.0.now e.1.1.0.now) (fed_lines_number r))
 
 pub data TapeHistory : Taping → List Coming → Taping → Type 0 where
   tape_end : (t : Taping) → TapeHistory t [] t

@@ -8,10 +8,6 @@ use Prim.Native.Nat.{ℕ}
 use lib.Dec.{lit≤, lit<}
 use borrow.Author.Tests.{not-true}
 use Rattle.choice.proofs.Verdict.{exactly, only_one}
-use Rattle.done.specs.declared.DoneReason.{DoneReason}
-use Rattle.done.specs.declared.DoneSlot.{DoneSlot}
-use Rattle.done.specs.declared.AfterFill.{AfterFill}
-use Rattle.done.specs.declared.AfterTake.{AfterTake}
 use Rattle.done.specs.Done.{is_filled, ShownFill, shown_fill, fill_tests, fill_refused, fill_done, filled, ShownTake, shown_take, take_tests}
 use Rattle.done.specs.Done.{take_refused, take_done, taken}
 use Rattle.done.proofs.DoneSlot.done_with.Reads as done-with
@@ -23,18 +19,18 @@ number_of_fill s = s.number
 abbrev number_of_take : ShownTake → ℕ
 number_of_take s = s.number
 
-module _ (s : DoneSlot) where
-  pub exactly_12 : (reason : DoneReason) (r : AfterFill) (e : _) → done-with.Post tt (s, (reason, tt)) r e
-      → number_of_fill (shown_fill r) ≡ 12 ↔ is_filled s ≡ true
-  unfolding fill_tests filled
-  exactly_12 reason r e p =
-      Iff.trans
-      (exactly number_of_fill (fill_refused s) (fill_done reason) (λ n. refl) (lit< tt) (fill_tests s) (shown_fill r) p 12 (lit≤ tt))
-      only_one
+pub exactly_12 : (κ : _) (a : _) (r : _) (e : _) → done-with.Post κ a r e → number_of_fill (shown_fill r.0 r.1) ≡ 12 ↔ is_filled a.0 ≡ true
+unfolding fill_tests filled
+exactly_12 κ a r e p =
+    let s = a.0 in
+    Iff.trans
+    (exactly number_of_fill (fill_refused s) (fill_done a.1.0) (λ n. refl) (lit< tt) (fill_tests s) (shown_fill r.0 r.1) p 12 (lit≤ tt))
+    only_one
 
-  pub exactly_13 : (r : AfterTake) (e : _) → take-done-reason.Post tt (s, tt) r e → number_of_take (shown_take r) ≡ 13 ↔ is_filled s ≡ false
-  unfolding take_tests taken
-  exactly_13 r e p =
-      Iff.trans
-      (exactly number_of_take (take_refused s) (take_done s) (λ n. refl) (lit< tt) (take_tests s) (shown_take r) p 13 (lit≤ tt))
-      (Iff.trans only_one (not-true (is_filled s), ap not))
+pub exactly_13 : (κ : _) (a : _) (r : _) (e : _) → take-done-reason.Post κ a r e → number_of_take (shown_take r.0 r.1) ≡ 13 ↔ is_filled a.0 ≡ false
+unfolding take_tests taken
+exactly_13 κ a r e p =
+    let s = a.0 in
+    Iff.trans
+    (exactly number_of_take (take_refused s) (take_done s) (λ n. refl) (lit< tt) (take_tests s) (shown_take r.0 r.1) p 13 (lit≤ tt))
+    (Iff.trans only_one (not-true (is_filled s), ap not))

@@ -1,28 +1,26 @@
 -- What each call on the done slot gives back.
 --     no_reason                      the slot without a reason
 --     reason_number, reason_value     a reason as numbers: 1 returned (offset), 2 host error, 3 out of fuel (amount needed), 4 error
---     shown_fill, shown_take          an answer's number, the values it names, and the slot handed back with it
+--     shown_fill, shown_take          an answer's number, the values it names, and the slot as the call leaves it
 --     fill_tests, take_tests          12: the slot already filled. 13: nothing to take
 --     filled, taken                 what is answered
-use Rattle.std.specs.Prelude.{Bool, true, false, not, List, [], ◌∷◌, ℕ}
+use Rattle.std.specs.Prelude.{not, Bool, List, [], ◌∷◌, ℕ, Some, None, is_some, unwrap_or, option_map, Result, Ok, Err, ⊤}
 use Rattle.choice.specs.Tests.{Test, ◌gives◌, settle}
 use Rattle.done.specs.declared.DoneReason.{DoneReason}
 use Rattle.done.specs.declared.DoneReason.TheVariants.{Returned, HostError, OutOfFuel, Error}
 use Rattle.done.specs.declared.DoneSlot.{DoneSlot}
-use Rattle.done.specs.declared.DoneSlot.TheVariants.{Empty, Holds}
-use Rattle.done.specs.declared.Fill.{Fill}
-use Rattle.done.specs.declared.Fill.TheVariants.{Done, AlreadyFilled}
-use Rattle.done.specs.declared.Take.{Take}
-use Rattle.done.specs.declared.Take.TheVariants.{Took, NothingToTake}
-use Rattle.done.specs.declared.AfterFill.{AfterFill}
-use Rattle.done.specs.declared.AfterTake.{AfterTake}
+use Rattle.done.specs.declared.AlreadyFilled.{AlreadyFilled}
+use Rattle.done.specs.declared.NothingToTake.{NothingToTake}
 
 abbrev pub no_reason : DoneSlot
-no_reason = Empty
+no_reason = record { reason = None }
+
+-- the slot with this reason
+abbrev pub holds_reason : DoneReason → DoneSlot
+holds_reason r = record { reason = Some r }
 
 abbrev pub is_filled : DoneSlot → Bool
-is_filled Empty = false
-is_filled (Holds r) = true
+is_filled s = is_some s.reason
 
 abbrev pub reason_number : DoneReason → ℕ
 reason_number (Returned offset) = 1
@@ -42,12 +40,12 @@ pub record ShownFill : Type 0 where
   pub number : ℕ
   pub slot : DoneSlot
 
-abbrev pub fill_number : Fill → ℕ
-fill_number Done = 0
-fill_number AlreadyFilled = 12
+abbrev pub fill_number : Result ⊤ AlreadyFilled → ℕ
+fill_number (Ok _) = 0
+fill_number (Err _) = 12
 
-abbrev pub shown_fill : AfterFill → ShownFill
-shown_fill r = record { number = fill_number r.answer; slot = r.slot }
+abbrev pub shown_fill : Result ⊤ AlreadyFilled → DoneSlot → ShownFill
+shown_fill r s = record { number = fill_number r; slot = s }
 
 unfoldable pub fill_tests : DoneSlot → List Test
 fill_tests s = is_filled s gives 12 ∷ []
@@ -56,7 +54,7 @@ abbrev pub fill_refused : DoneSlot → ℕ → ShownFill
 fill_refused s n = record { number = n; slot = s }
 
 abbrev pub fill_done : DoneReason → ShownFill
-fill_done reason = record { number = 0; slot = Holds reason }
+fill_done reason = record { number = 0; slot = holds_reason reason }
 
 unfoldable pub filled : DoneSlot → DoneReason → ShownFill
 unfolding fill_tests
@@ -70,43 +68,36 @@ pub record ShownTake : Type 0 where
   pub value : ℕ
   pub slot : DoneSlot
 
-abbrev pub take_number : Take → ℕ
-take_number (Took r) = 0
-take_number NothingToTake = 13
+abbrev pub take_number : Result DoneReason NothingToTake → ℕ
+take_number (Ok r) = 0
+take_number (Err _) = 13
 
-abbrev pub take_reason : Take → ℕ
-take_reason (Took r) = reason_number r
-take_reason NothingToTake = 0
+abbrev pub take_reason : Result DoneReason NothingToTake → ℕ
+take_reason (Ok r) = reason_number r
+take_reason (Err _) = 0
 
-abbrev pub take_value : Take → ℕ
-take_value (Took r) = reason_value r
-take_value NothingToTake = 0
+abbrev pub take_value : Result DoneReason NothingToTake → ℕ
+take_value (Ok r) = reason_value r
+take_value (Err _) = 0
 
-abbrev pub shown_take : AfterTake → ShownTake
-shown_take r = record {
-  number = take_number r.answer;
-  reason = take_reason r.answer;
-  value = take_value r.answer;
-  slot = r.slot;
-}
+abbrev pub shown_take : Result DoneReason NothingToTake → DoneSlot → ShownTake
+shown_take r s = record { number = take_number r; reason = take_reason r; value = take_value r; slot = s }
 
 unfoldable pub take_tests : DoneSlot → List Test
 take_tests s = not (is_filled s) gives 13 ∷ []
 
 -- the reason that a slot holds, as numbers
 abbrev pub held_reason : DoneSlot → ℕ
-held_reason Empty = 0
-held_reason (Holds r) = reason_number r
+held_reason s = unwrap_or (option_map reason_number s.reason) 0
 
 abbrev pub held_value : DoneSlot → ℕ
-held_value Empty = 0
-held_value (Holds r) = reason_value r
+held_value s = unwrap_or (option_map reason_value s.reason) 0
 
 abbrev pub take_refused : DoneSlot → ℕ → ShownTake
 take_refused s n = record { number = n; reason = 0; value = 0; slot = s }
 
 abbrev pub take_done : DoneSlot → ShownTake
-take_done s = record { number = 0; reason = held_reason s; value = held_value s; slot = Empty }
+take_done s = record { number = 0; reason = held_reason s; value = held_value s; slot = no_reason }
 
 unfoldable pub taken : DoneSlot → ShownTake
 unfolding take_tests

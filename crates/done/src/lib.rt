@@ -2,13 +2,8 @@
 // Each call takes the slot and hands it back with the answer.
 #![tactic(auto)]
 
-ghost use Rattle.std.specs.Prelude.{◌≡◌};
-ghost use Rattle.done.specs.Done.{no_reason, shown_fill, filled, shown_take, taken};
-
-// The numbers of the two refusals: the slot is already filled, and there is nothing to take.
-pub const ALREADY_FILLED: u64 = 12;
-
-pub const NOTHING_TO_TAKE: u64 = 13;
+ghost use Rattle.std.specs.Prelude.{◌≡◌, Err};
+ghost use Rattle.done.specs.Done.{no_reason, fill_number, shown_fill, filled, take_number, shown_take, taken};
 
 // Why an execution halted. The two errors carry no number.
 #[derive(Clone, Copy)]
@@ -20,33 +15,32 @@ pub enum DoneReason {
 }
 
 #[derive(Clone, Copy)]
-pub enum DoneSlot {
-    Empty,
-    Holds(DoneReason),
+pub struct DoneSlot {
+    pub reason: Option<DoneReason>,
 }
 
+// The slot holds a reason already.
 #[derive(Clone, Copy)]
-pub enum Fill {
-    Done,
-    AlreadyFilled,
+pub struct AlreadyFilled;
+
+impl From<AlreadyFilled> for u64 {
+    ghost from_gives = { λ e number. number ≡ fill_number (Err e) };
+
+    fn from(_refusal: AlreadyFilled) -> u64 {
+        12
+    }
 }
 
+// The slot holds no reason.
 #[derive(Clone, Copy)]
-pub struct AfterFill {
-    pub answer: Fill,
-    pub slot: DoneSlot,
-}
+pub struct NothingToTake;
 
-#[derive(Clone, Copy)]
-pub enum Take {
-    Took(DoneReason),
-    NothingToTake,
-}
+impl From<NothingToTake> for u64 {
+    ghost from_gives = { λ e number. number ≡ take_number (Err e) };
 
-#[derive(Clone, Copy)]
-pub struct AfterTake {
-    pub answer: Take,
-    pub slot: DoneSlot,
+    fn from(_refusal: NothingToTake) -> u64 {
+        13
+    }
 }
 
 impl DoneSlot {
@@ -54,38 +48,26 @@ impl DoneSlot {
     pub fn empty() -> DoneSlot
         ensures { result ≡ no_reason }
     {
-        DoneSlot::Empty
+        DoneSlot { reason: None }
     }
 
     // Halts with this reason. Refused (12) where the slot holds one already: that one stays.
-    pub fn done_with(self, reason: DoneReason) -> AfterFill
-        ensures { shown_fill result ≡ filled self reason }
+    pub fn done_with(self, reason: DoneReason) -> (Result<(), AlreadyFilled>, DoneSlot)
+        ensures { shown_fill result.0 result.1 ≡ filled self reason }
     {
-        match self {
-            DoneSlot::Empty => AfterFill {
-                answer: Fill::Done,
-                slot: DoneSlot::Holds(reason),
-            },
-            DoneSlot::Holds(_) => AfterFill {
-                answer: Fill::AlreadyFilled,
-                slot: self,
-            },
+        if self.reason.is_some() {
+            return (Err(AlreadyFilled), self);
         }
+        let slot = DoneSlot {
+            reason: Some(reason),
+        };
+        (Ok(()), slot)
     }
 
     // Takes the reason out, and says which it was. Refused (13) where there is none.
-    pub fn take_done_reason(self) -> AfterTake
-        ensures { shown_take result ≡ taken self }
+    pub fn take_done_reason(self) -> (Result<DoneReason, NothingToTake>, DoneSlot)
+        ensures { shown_take result.0 result.1 ≡ taken self }
     {
-        match self {
-            DoneSlot::Empty => AfterTake {
-                answer: Take::NothingToTake,
-                slot: self,
-            },
-            DoneSlot::Holds(reason) => AfterTake {
-                answer: Take::Took(reason),
-                slot: DoneSlot::Empty,
-            },
-        }
+        (self.reason.ok_or(NothingToTake), DoneSlot::empty())
     }
 }

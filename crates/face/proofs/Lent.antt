@@ -1,4 +1,5 @@
 -- A host's part by offset and length: what the code tells of a frame, and what a judgement comes to. Assumes nothing.
+use Rattle.std.specs.Prelude.{Result, Ok, Err}
 use mathlib.Core.Path.{◌≡◌, refl, sym, ap, ◌∙◌}
 use mathlib.Core.Bool.{false}
 use mathlib.Core.List.{List}
@@ -9,8 +10,6 @@ use Rattle.cells.specs.declared.host.HostFrame.{HostFrame}
 use Rattle.rules.specs.declared.State.{State}
 use Rattle.rules.specs.declared.Refusal.{Refusal}
 use Rattle.rules.specs.declared.Room.{Room}
-use Rattle.rules.specs.declared.Judgement.{Judgement}
-use Rattle.rules.specs.declared.Judgement.TheVariants.{Refuse, Accept}
 use Rattle.rules.specs.declared.Asked.TheVariants.{HostPart}
 use Rattle.rules.specs.World.{World, world_of}
 use Rattle.rules.specs.Answers.{refusal_number, shown_judgement, judged}
@@ -31,21 +30,21 @@ some_lent frame n size some =
     (sym (ap (λ x. eqb x 0) (sym size) ∙ some))
 
 module _ (w : World) (frame : HostFrame) where
-  pub told_refused : (why : Refusal) → shown_judgement (Refuse why) ≡ judged (part_tests w frame) (part_room w frame)
+  pub told_refused : (why : Refusal) → shown_judgement (Err why) ≡ judged (part_tests w frame) (part_room w frame)
       → part_refused (refusal_number why) ≡ part_told w frame
   unfolding part_told
   told_refused why e = sym (judged_refused part_refused (frame_lent frame) (part_tests w frame) (numbered w (HostPart frame)) (part_room w frame) why e)
 
-  pub told_accepted : (r : Room) → shown_judgement (Accept r) ≡ judged (part_tests w frame) (part_room w frame) → frame_lent frame ≡ part_told w frame
+  pub told_accepted : (r : Room) → shown_judgement (Ok r) ≡ judged (part_tests w frame) (part_room w frame) → frame_lent frame ≡ part_told w frame
   unfolding part_told
   told_accepted r e = sym (judged_accepted part_refused (frame_lent frame) (part_tests w frame) (numbered w (HostPart frame)) (part_room w frame) r e).0
 
 -- with the judgement known
-module _ (w : World) (frame : HostFrame) (j : Judgement) (shows : shown_judgement j ≡ judged (part_tests w frame) (part_room w frame)) (p : CPart) where
-  pub refused_told : (why : Refusal) (n : ℕ) → j ≡ Refuse why → n ≡ refusal_number why → p ≡ part_with n 0 0 0 → p ≡ part_told w frame
+module _ (w : World) (frame : HostFrame) (j : Result Room Refusal) (shows : shown_judgement j ≡ judged (part_tests w frame) (part_room w frame)) (p : CPart) where
+  pub refused_told : (why : Refusal) (n : ℕ) → j ≡ Err why → n ≡ refusal_number why → p ≡ part_with n 0 0 0 → p ≡ part_told w frame
   refused_told why n refuses numbers tells = tells ∙ ap part_refused numbers ∙ told_refused w frame why (ap shown_judgement (sym refuses) ∙ shows)
 
-  pub accepted_told : (r : Room) → j ≡ Accept r → p ≡ frame_lent frame → p ≡ part_told w frame
+  pub accepted_told : (r : Room) → j ≡ Ok r → p ≡ frame_lent frame → p ≡ part_told w frame
   accepted_told r accepts tells = tells ∙ told_accepted w frame r (ap shown_judgement (sym accepts) ∙ shows)
 
 -- ---- of a state and a frame that numbers say

@@ -2,28 +2,26 @@
 --     request_from q    the request that the numbers say; none where the kind is none of the nine
 --     request_to r      the numbers of a record, each flag by itself
 -- One statement, RequestKept: the numbers of a request's record say that request.
-use Rattle.std.specs.Prelude.{◌≡◌, ◌/◌, ◌%◌, eqb}
+use Rattle.std.specs.Prelude.{◌≡◌, ◌/◌, ◌%◌, eqb, Ok, Err, Option, ℕ}
+use Rattle.std.specs.Bool.{then_some}
 use Rattle.choice.specs.Choose.{choose}
-use Rattle.given.specs.declared.Given.{Given}
-use Rattle.given.specs.Given.{given_if}
 use Rattle.regs.specs.Convert.{truth_of}
 use Rattle.record.specs.declared.Record.{Record}
+use Rattle.record.specs.Reading.{bad_record}
 use Rattle.rules.specs.declared.PushArgs.{PushArgs}
 use Rattle.rules.specs.declared.ReplaceArgs.{ReplaceArgs}
 use Rattle.rules.specs.declared.HostArgs.{HostArgs}
 use Rattle.rules.specs.declared.ReturnHostArgs.{ReturnHostArgs}
 use Rattle.rules.specs.declared.Request.{Request}
 use Rattle.rules.specs.declared.Request.TheVariants.{Push, Pop, Replace, Host, ReturnHost, Sync, Restore, Reset, Set}
-use Rattle.request.specs.declared.Decoded.{Decoded}
-use Rattle.request.specs.declared.Decoded.TheVariants.{Asks, Bad}
-use Rattle.request.specs.Requests.{record_for}
+use Rattle.request.specs.Requests.{record_for, Decoded}
 use Rattle.face.specs.declared.requests.CRequest.{CRequest}
 
-abbrev pub caller_from : CRequest → Given
-caller_from q = given_if (truth_of q.callerflag) q.caller
+abbrev pub caller_from : CRequest → Option ℕ
+caller_from q = then_some (truth_of q.callerflag) q.caller
 
-abbrev pub instance_from : CRequest → Given
-instance_from q = given_if (truth_of q.instanceflag) q.instance
+abbrev pub instance_from : CRequest → Option ℕ
+instance_from q = then_some (truth_of q.instanceflag) q.instance
 
 abbrev pub push_from : CRequest → PushArgs
 push_from q = record {
@@ -54,16 +52,16 @@ return_host_from q = record { head = q.head; params = q.params; results = q.resu
 
 unfoldable pub request_from : CRequest → Decoded
 request_from q =
-    choose (eqb q.kind 1) (Asks (Push (push_from q)))
-    (choose (eqb q.kind 2) (Asks (Pop q.instance))
-    (choose (eqb q.kind 3) (Asks (Replace (replace_from q)))
-    (choose (eqb q.kind 4) (Asks (Host (host_from q)))
-    (choose (eqb q.kind 5) (Asks (ReturnHost (return_host_from q)))
-    (choose (eqb q.kind 6) (Asks (Sync q.caller))
-    (choose (eqb q.kind 7) (Asks Restore)
-    (choose (eqb q.kind 8) (Asks Reset)
-    (choose (eqb q.kind 9) (Asks (Set q.head q.callee))
-    Bad))))))))
+    choose (eqb q.kind 1) (Ok (Push (push_from q)))
+    (choose (eqb q.kind 2) (Ok (Pop q.instance))
+    (choose (eqb q.kind 3) (Ok (Replace (replace_from q)))
+    (choose (eqb q.kind 4) (Ok (Host (host_from q)))
+    (choose (eqb q.kind 5) (Ok (ReturnHost (return_host_from q)))
+    (choose (eqb q.kind 6) (Ok (Sync q.caller))
+    (choose (eqb q.kind 7) (Ok Restore)
+    (choose (eqb q.kind 8) (Ok Reset)
+    (choose (eqb q.kind 9) (Ok (Set q.head q.callee))
+    (Err bad_record)))))))))
 
 abbrev pub request_to : Record → CRequest
 request_to r = record {
@@ -81,4 +79,4 @@ request_to r = record {
 }
 
 abbrev pub RequestKept : Type 0
-RequestKept = (q : Request) → request_from (request_to (record_for q)) ≡ Asks q
+RequestKept = (q : Request) → request_from (request_to (record_for q)) ≡ Ok q

@@ -3,8 +3,8 @@
 --     state_to s        the numbers of a state: the flag is 0 or 1, and the number beside 0 is 0
 --     registers_in c    its registers
 -- One statement, StateKept: a state handed out and in again is that state.
-use Rattle.std.specs.Prelude.{◌≡◌}
-use Rattle.given.specs.Given.{is_given, given_number, given_if}
+use Rattle.std.specs.Prelude.{◌≡◌, is_some, unwrap_or}
+use Rattle.std.specs.Bool.{then_some}
 use Rattle.regs.specs.Convert.{truth_bit, truth_of}
 use Rattle.regs.specs.declared.registers.Registers.{Registers}
 use Rattle.rules.specs.declared.State.{State}
@@ -18,7 +18,7 @@ state_from c = record {
   cells = c.cells;
   count = c.count;
   len = c.len;
-  current = given_if (truth_of c.currentflag) c.current;
+  current = then_some (truth_of c.currentflag) c.current;
   regs = c.regs;
 }
 
@@ -30,8 +30,8 @@ state_to s = record {
   cells = s.cells;
   count = s.count;
   len = s.len;
-  currentflag = truth_bit (is_given s.current);
-  current = given_number s.current;
+  currentflag = truth_bit (is_some s.current);
+  current = unwrap_or s.current 0;
   regs = s.regs;
 }
 

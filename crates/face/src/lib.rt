@@ -7,5 +7,5 @@ mod requests;
 mod state;
 
 pub use parts::{CPart, part_told};
-pub use requests::{CRequest, SET, request_from, request_to};
-pub use state::{CState, state_from, state_to};
+pub use requests::{CRequest, SET};
+pub use state::CState;

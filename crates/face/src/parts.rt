@@ -4,8 +4,7 @@ ghost use Rattle.rules.specs.World.{world_of};
 ghost use Rattle.face.specs.Parts.{part_with, frame_lent, part_told};
 
 use cells::{HostFrame, host_size};
-use rules::{Judgement, State};
-use stack::refusal_number;
+use rules::State;
 use stack_hosts::judge_host_part;
 
 #[repr(C)]
@@ -22,11 +21,12 @@ pub fn part_told(s: State, words: &[u64], cells: &[u64], frame: HostFrame) -> CP
     ensures { result ≡ part_told (world_of s words.now cells.now) frame }
 {
     match judge_host_part(s, words, cells, frame) {
-        Judgement::Refuse(why) => part(refusal_number(why), 0, 0, 0),
-        Judgement::Accept(_) => frame_lent(frame),
+        Err(why) => part(u64::from(why), 0, 0, 0),
+        Ok(_) => frame_lent(frame),
     }
 }
 
+#[tactic(auto, unfolding(crate::specs::Parts::frame_lent, choice::specs::Choose::choose))]
 fn frame_lent(frame: HostFrame) -> CPart
     ensures { result ≡ frame_lent frame }
 {

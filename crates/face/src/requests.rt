@@ -2,10 +2,8 @@
 ghost use Rattle.std.specs.Prelude.{◌≡◌};
 ghost use Rattle.face.specs.Requests.{request_from, push_from, replace_from, host_from, return_host_from, request_to};
 
-use given::given_if;
-use record::Record;
-use regs::to_bool;
-use request::Decoded;
+use record::{BadRecord, Record};
+use regs::InRegister;
 use rules::{HostArgs, PushArgs, ReplaceArgs, Request, ReturnHostArgs};
 
 // The kinds, as wide as they cross to C.
@@ -45,89 +43,104 @@ pub struct CRequest {
 }
 
 // The request of a kind; none where the kind is none of the nine.
-pub fn request_from(q: CRequest) -> Decoded
-    ensures { result ≡ request_from q }
-{
-    let kind = q.kind;
-    match kind {
-        PUSH => Decoded::Asks(Request::Push(push_from(q))),
-        POP => Decoded::Asks(Request::Pop(q.instance)),
-        REPLACE => Decoded::Asks(Request::Replace(replace_from(q))),
-        HOST => Decoded::Asks(Request::Host(host_from(q))),
-        RETURN_HOST => Decoded::Asks(Request::ReturnHost(return_host_from(q))),
-        SYNC => Decoded::Asks(Request::Sync(q.caller)),
-        RESTORE => Decoded::Asks(Request::Restore),
-        RESET => Decoded::Asks(Request::Reset),
-        SET => Decoded::Asks(Request::Set(q.head, q.callee)),
-        _ => Decoded::Bad,
+impl TryFrom<CRequest> for Request {
+    type Error = BadRecord;
+
+    ghost try_from_gives = { λ q r. r ≡ request_from q };
+
+    #[tactic(auto, unfolding(crate::specs::Requests::request_from, choice::specs::Choose::choose))]
+    fn try_from(q: CRequest) -> Result<Request, BadRecord> {
+        let kind = q.kind;
+        match kind {
+            PUSH => Ok(Request::Push(PushArgs::from(q))),
+            POP => Ok(Request::Pop(q.instance)),
+            REPLACE => Ok(Request::Replace(ReplaceArgs::from(q))),
+            HOST => Ok(Request::Host(HostArgs::from(q))),
+            RETURN_HOST => Ok(Request::ReturnHost(ReturnHostArgs::from(q))),
+            SYNC => Ok(Request::Sync(q.caller)),
+            RESTORE => Ok(Request::Restore),
+            RESET => Ok(Request::Reset),
+            SET => Ok(Request::Set(q.head, q.callee)),
+            _ => Err(BadRecord),
+        }
     }
 }
 
-fn push_from(q: CRequest) -> PushArgs
-    ensures { result ≡ push_from q }
-{
-    PushArgs {
-        caller: given_if(to_bool(q.callerflag), q.caller),
-        callee: q.callee,
-        head: q.head,
-        params: q.params,
-        locals: q.locals,
-        slots: q.slots,
-        instance: given_if(to_bool(q.instanceflag), q.instance),
+impl From<CRequest> for PushArgs {
+    ghost from_gives = { λ q p. p ≡ push_from q };
+
+    fn from(q: CRequest) -> PushArgs {
+        PushArgs {
+            caller: bool::from_register(q.callerflag).then_some(q.caller),
+            callee: q.callee,
+            head: q.head,
+            params: q.params,
+            locals: q.locals,
+            slots: q.slots,
+            instance: bool::from_register(q.instanceflag).then_some(q.instance),
+        }
     }
 }
 
-fn replace_from(q: CRequest) -> ReplaceArgs
-    ensures { result ≡ replace_from q }
-{
-    ReplaceArgs {
-        callee: q.callee,
-        head: q.head,
-        params: q.params,
-        locals: q.locals,
-        slots: q.slots,
-        instance: given_if(to_bool(q.instanceflag), q.instance),
+impl From<CRequest> for ReplaceArgs {
+    ghost from_gives = { λ q p. p ≡ replace_from q };
+
+    fn from(q: CRequest) -> ReplaceArgs {
+        ReplaceArgs {
+            callee: q.callee,
+            head: q.head,
+            params: q.params,
+            locals: q.locals,
+            slots: q.slots,
+            instance: bool::from_register(q.instanceflag).then_some(q.instance),
+        }
     }
 }
 
-fn host_from(q: CRequest) -> HostArgs
-    ensures { result ≡ host_from q }
-{
-    HostArgs {
-        caller: given_if(to_bool(q.callerflag), q.caller),
-        head: q.head,
-        params: q.params,
-        results: q.results,
+impl From<CRequest> for HostArgs {
+    ghost from_gives = { λ q p. p ≡ host_from q };
+
+    fn from(q: CRequest) -> HostArgs {
+        HostArgs {
+            caller: bool::from_register(q.callerflag).then_some(q.caller),
+            head: q.head,
+            params: q.params,
+            results: q.results,
+        }
     }
 }
 
-fn return_host_from(q: CRequest) -> ReturnHostArgs
-    ensures { result ≡ return_host_from q }
-{
-    ReturnHostArgs {
-        head: q.head,
-        params: q.params,
-        results: q.results,
-        instance: q.instance,
+impl From<CRequest> for ReturnHostArgs {
+    ghost from_gives = { λ q p. p ≡ return_host_from q };
+
+    fn from(q: CRequest) -> ReturnHostArgs {
+        ReturnHostArgs {
+            head: q.head,
+            params: q.params,
+            results: q.results,
+            instance: q.instance,
+        }
     }
 }
 
 // The request that a record says, its flags one by one.
-pub fn request_to(r: Record) -> CRequest
-    ensures { result ≡ request_to r }
-{
-    let flags = r.flags as u64;
-    CRequest {
-        kind: r.kind as u64,
-        head: r.head,
-        params: r.params,
-        locals: r.locals,
-        slots: r.slots,
-        results: r.results,
-        callerflag: flags % 2,
-        caller: r.word1,
-        callee: r.word2,
-        instanceflag: flags / 2 % 2,
-        instance: r.word3,
+impl From<Record> for CRequest {
+    ghost from_gives = { λ r q. q ≡ request_to r };
+
+    fn from(r: Record) -> CRequest {
+        let flags = r.flags as u64;
+        CRequest {
+            kind: r.kind as u64,
+            head: r.head,
+            params: r.params,
+            locals: r.locals,
+            slots: r.slots,
+            results: r.results,
+            callerflag: flags % 2,
+            caller: r.word1,
+            callee: r.word2,
+            instanceflag: flags / 2 % 2,
+            instance: r.word3,
+        }
     }
 }

@@ -3,8 +3,7 @@
 ghost use Rattle.std.specs.Prelude.{◌≡◌};
 ghost use Rattle.face.specs.States.{state_from, state_to};
 
-use given::{given_if, given_number, is_given};
-use regs::{Registers, from_bool, to_bool};
+use regs::{InRegister, Registers};
 use rules::State;
 
 #[repr(C)]
@@ -21,36 +20,40 @@ pub struct CState {
     pub regs: Registers,
 }
 
-pub fn state_from(c: CState) -> State
-    ensures { result ≡ state_from c }
-{
-    let regs = c.regs;
-    State {
-        depth: c.depth,
-        height: c.height,
-        words: c.words,
-        cells: c.cells,
-        count: c.count,
-        len: c.len,
-        current: given_if(to_bool(c.currentflag), c.current),
-        regs,
+impl From<CState> for State {
+    ghost from_gives = { λ c s. s ≡ state_from c };
+
+    fn from(c: CState) -> State {
+        let regs = c.regs;
+        State {
+            depth: c.depth,
+            height: c.height,
+            words: c.words,
+            cells: c.cells,
+            count: c.count,
+            len: c.len,
+            current: bool::from_register(c.currentflag).then_some(c.current),
+            regs,
+        }
     }
 }
 
-pub fn state_to(s: State) -> CState
-    ensures { result ≡ state_to s }
-{
-    let current = s.current;
-    let regs = s.regs;
-    CState {
-        depth: s.depth,
-        height: s.height,
-        words: s.words,
-        cells: s.cells,
-        count: s.count,
-        len: s.len,
-        currentflag: from_bool(is_given(current)),
-        current: given_number(current),
-        regs,
+impl From<State> for CState {
+    ghost from_gives = { λ s c. c ≡ state_to s };
+
+    fn from(s: State) -> CState {
+        let current = s.current;
+        let regs = s.regs;
+        CState {
+            depth: s.depth,
+            height: s.height,
+            words: s.words,
+            cells: s.cells,
+            count: s.count,
+            len: s.len,
+            currentflag: current.is_some().into_register(),
+            current: current.unwrap_or(0),
+            regs,
+        }
     }
 }

@@ -4,16 +4,17 @@ use mathlib.Core.List.{List}
 use Prim.Native.Nat.{ℕ}
 use lib.Dec.{leb}
 use borrow.Author.Tests.{le-leb}
+use Rattle.std.specs.Prelude.{Result, Ok, Err}
 use Rattle.choice.specs.Choose.{choose}
 use Rattle.choice.proofs.Choices.{chosen_either}
 use Rattle.cells.specs.declared.host.HostFrame.{HostFrame}
+use Rattle.record.specs.Reading.{bad_record}
 use Rattle.rules.specs.declared.Asked.{Asked}
 use Rattle.rules.specs.declared.Asked.TheVariants.{Traced}
 use Rattle.rules.specs.declared.State.{State}
 use Rattle.rules.specs.declared.Refusal.{Refusal}
-use Rattle.rules.specs.declared.Values.{Values}
-use Rattle.rules.specs.declared.Answer.{Answer}
-use Rattle.rules.specs.declared.Answer.TheVariants.{Refused, Gone, Done}
+use Rattle.rules.specs.declared.Reply.{Reply}
+use Rattle.rules.specs.declared.Reply.TheVariants.{Gone, Done}
 use Rattle.rules.specs.declared.Outcome.{Outcome}
 use Rattle.rules.specs.declared.Request.{Request}
 use Rattle.rules.specs.World.{world_of}
@@ -22,27 +23,24 @@ use Rattle.rules.specs.Open.{Opened, shown_opening}
 use Rattle.rules.proofs.Judgements.{refusal_two}
 use Rattle.rules.specs.Rules.{answered}
 use Rattle.replay.specs.Running.{answer_to}
-use Rattle.request.specs.declared.Decoded.{Decoded}
-use Rattle.request.specs.declared.Decoded.TheVariants.{Asks, Bad}
+use Rattle.request.specs.Requests.{Decoded}
 use Rattle.face.specs.declared.state.CState.{CState}
 use Rattle.face.specs.States.{state_to}
 use Rattle.face_ask.specs.declared.answers.CAnswer.{CAnswer}
 use Rattle.face_ask.specs.Told.{answer_with, state_after, answer_told, opening_told, told, after_told}
 
 -- an answer by its case; a refusal hands the numbers of the state back as they came
-module _ (r : CAnswer) (c : CState) (a : Answer) (s : State) where
-  pub refusal_told : (why : Refusal) (h : HostFrame) (n : ℕ) → a ≡ Refused why → h ≡ no_host → n ≡ refusal_number why → r ≡ answer_with n (host_values 0 h) c
+module _ (r : CAnswer) (c : CState) (a : Result Reply Refusal) (s : State) where
+  pub refusal_told : (why : Refusal) (h : HostFrame) (n : ℕ) → a ≡ Err why → h ≡ no_host → n ≡ refusal_number why → r ≡ answer_with n (host_values 0 h) c
       → r ≡ answer_told c (shown_answer a) s
   unfolding choose
   refusal_told why h n is none numbers tells = rw (is, le-leb 2 (refusal_number why) (refusal_two why)) (tells ∙ rw (none, numbers) refl)
 
-  pub gone_told : (host : HostFrame) (t : CState) → a ≡ Gone host → t ≡ state_to s → r ≡ answer_with 1 (host_values 0 host) t → r ≡ answer_told c (shown_answer a) s
+  pub reply_told_lem : (reply : Reply) (t : CState) → a ≡ Ok reply → t ≡ state_to s
+      → r ≡ answer_with (shown_answer (Ok reply)).number (shown_answer (Ok reply)).values t → r ≡ answer_told c (shown_answer a) s
   unfolding choose
-  gone_told host t is after tells = rw is (tells ∙ ap (answer_with 1 (host_values 0 host)) after)
-
-  pub done_told : (values : Values) (t : CState) → a ≡ Done values → t ≡ state_to s → r ≡ answer_with 0 values t → r ≡ answer_told c (shown_answer a) s
-  unfolding choose
-  done_told values t is after tells = rw is (tells ∙ ap (answer_with 0 values) after)
+  reply_told_lem (Gone host) t is after tells = rw is (tells ∙ ap (answer_with 1 (host_values 0 host)) after)
+  reply_told_lem (Done values) t is after tells = rw is (tells ∙ ap (answer_with 0 values) after)
 
 -- an outcome told is document 01's answer told
 pub outcome_is_told : (c : CState) (o : Outcome) (r : CAnswer) (ws cs : List ℕ) (a : After) → r ≡ answer_told c (shown_answer o.answer) o.state
@@ -63,14 +61,14 @@ pub answer_at : (s t : State) → s ≡ t → (ws cs : List ℕ) (a : Asked) →
 answer_at s t same ws cs a = ap (λ x. answered (world_of x ws cs) a) same
 
 -- of a request that the numbers say
-pub asked_at : (s t : State) → s ≡ t → (ws cs : List ℕ) (q : Request) (d e : Decoded) → d ≡ e → d ≡ Asks q
+pub asked_at : (s t : State) → s ≡ t → (ws cs : List ℕ) (q : Request) (d e : Decoded) → d ≡ e → d ≡ Ok q
     → answered (world_of s ws cs) (Traced q) ≡ answer_to (world_of t ws cs) e
 asked_at s t same ws cs q d e reads asks = answer_at s t same ws cs (Traced q) ∙ ap (answer_to (world_of t ws cs)) (sym asks ∙ reads)
 
 -- numbers that say no request
 pub none_is_told : (r : CAnswer) (h : HostFrame) (c : CState) (t : State) (ws cs : List ℕ) (d e : Decoded)
     → r ≡ answer_with 10 (host_values 0 h) c → h ≡ no_host → d ≡ e
-    → d ≡ Bad → told r ws cs ≡ after_told c (answer_to (world_of t ws cs) e)
+    → d ≡ Err bad_record → told r ws cs ≡ after_told c (answer_to (world_of t ws cs) e)
 unfolding choose
 none_is_told r h c t ws cs d e tells none reads bad =
     ap (λ x. told x ws cs) (tells ∙ ap (λ x. answer_with 10 (host_values 0 x) c) none) ∙ ap (λ x. after_told c (answer_to (world_of t ws cs) x)) (sym bad ∙ reads)

@@ -1,13 +1,13 @@
 // An answer as numbers: document 01's number, every value that some request hands back, and the state after it.
-ghost use Rattle.std.specs.Prelude.{◌≡◌};
+ghost use Rattle.std.specs.Prelude.{◌≡◌, Ok};
 ghost use Rattle.rules.specs.Answers.{host_values, shown_answer};
 ghost use Rattle.face_ask.specs.Told.{answer_with, answer_told};
 
 use cells::HostFrame;
-use face::{CState, state_to};
+use face::CState;
 use regs::Registers;
-use rules::{Answer, Outcome, Values};
-use stack::{no_host, refusal_number};
+use rules::{Outcome, Reply, Values};
+use stack::no_host;
 
 #[repr(C)]
 #[derive(Clone, Copy)]
@@ -22,15 +22,24 @@ pub struct CAnswer {
 }
 
 // A refusal hands the numbers of the state back as they came.
+// Of an answer and the state that came, so no From.
 pub(crate) fn outcome_told(out: Outcome, came: CState) -> CAnswer
     ensures { result ≡ answer_told came (shown_answer out.answer) out.state }
 {
     let s = out.state;
     let answer = out.answer;
     match answer {
-        Answer::Refused(why) => host_told(refusal_number(why), no_host(), came),
-        Answer::Gone(host) => host_told(1, host, state_to(s)),
-        Answer::Done(values) => values_told(0, values, state_to(s)),
+        Err(why) => host_told(u64::from(why), no_host(), came),
+        Ok(reply) => reply_told(reply, CState::from(s)),
+    }
+}
+
+fn reply_told(reply: Reply, state: CState) -> CAnswer
+    ensures { result ≡ answer_with (shown_answer (Ok reply)).number (shown_answer (Ok reply)).values state }
+{
+    match reply {
+        Reply::Gone(host) => host_told(1, host, state),
+        Reply::Done(values) => values_told(0, values, state),
     }
 }
 

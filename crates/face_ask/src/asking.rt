@@ -11,10 +11,10 @@ ghost use Rattle.face_ask.specs.Told.{opening_told, told, after_told};
 
 use crate::answers::{CAnswer, host_told, outcome_told};
 use ask::ask;
-use face::{CRequest, CState, request_from, state_from, state_to};
-use record::BAD_RECORD;
+use face::{CRequest, CState};
+use record::{BAD_RECORD, BadRecord};
 use regs::Registers;
-use request::Decoded;
+use rules::{Request, State};
 use stack::{no_host, open, sync_regs};
 
 // Opens a stack: the height limit in bytes, the depth limit in frames. 14, with a state of zeros.
@@ -23,7 +23,7 @@ pub fn cattlecleat_open(bytes: usize, depth: usize, words: &[u64], cells: &[u64]
 {
     let out = open(bytes, depth, words, cells);
     let s = out.state;
-    outcome_told(out, state_to(s))
+    outcome_told(out, CState::from(s))
 }
 
 // Asks for one of the nine requests. 10 where the kind is none of them.
@@ -31,9 +31,9 @@ pub fn cattlecleat_ask(s: CState, words: &mut [u64], cells: &mut [u64], q: CRequ
     ensures { told result words.new cells.new
         ≡ after_told s (answer_to (world_of (state_from s) words.old cells.old) (request_from q)) }
 {
-    match request_from(q) {
-        Decoded::Asks(asked) => outcome_told(ask(state_from(s), words, cells, asked), s),
-        Decoded::Bad => host_told(BAD_RECORD, no_host(), s),
+    match Request::try_from(q) {
+        Ok(asked) => outcome_told(ask(State::from(s), words, cells, asked), s),
+        Err(BadRecord) => host_told(BAD_RECORD, no_host(), s),
     }
 }
 
@@ -47,5 +47,5 @@ pub fn cattlecleat_sync_registers(
     ensures { told result words.now cells.now
         ≡ after_told s (answered (world_of (state_from s) words.now cells.now) (SyncRegs regs)) }
 {
-    outcome_told(sync_regs(state_from(s), words, cells, regs), s)
+    outcome_told(sync_regs(State::from(s), words, cells, regs), s)
 }

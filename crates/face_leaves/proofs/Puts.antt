@@ -55,19 +55,19 @@ shown {𝓤 = 𝓤} t {P} {Q} q = step (λ s. record { prf = via 𝓤 P s.prf (v
 
 -- the type of v, which holds no resource
 pub record Scalar : Type 1 where
-  pub Value : Type 0
-  pub coded : Coded Value
+  pub Some : Type 0
+  pub coded : Coded Some
   pub ty : Ty
-  pub val : Value → Val
-  pub own : Value → List Val → Fml
-  pub pure : (x : Value) (vs : List Val) → Pure (own x vs)
-  pub tells : (x : Value) (vs : List Val) → Is (plain_type Value coded (ty ∷ []) own pure) x vs → vs ≡ val x ∷ []
-  pub typed : (x : Value) → Is (plain_type Value coded (ty ∷ []) own pure) x (val x ∷ []) → T (has_ty ty (val x)) × WT (val x)
+  pub val : Some → Val
+  pub own : Some → List Val → Fml
+  pub pure : (x : Some) (vs : List Val) → Pure (own x vs)
+  pub tells : (x : Some) (vs : List Val) → Is (plain_type Some coded (ty ∷ []) own pure) x vs → vs ≡ val x ∷ []
+  pub typed : (x : Some) → Is (plain_type Some coded (ty ∷ []) own pure) x (val x ∷ []) → T (has_ty ty (val x)) × WT (val x)
 
 abbrev pub uint64 : Scalar
 uint64 =
     record {
-      Value = ℕ;
+      Some = ℕ;
       coded = coded_ℕ;
       ty = ty_int w64;
       val = vint w64;
@@ -81,7 +81,7 @@ uint64 =
 abbrev pub ieee : Format → Scalar
 ieee f =
     record {
-      Value = Float;
+      Some = Float;
       coded = coded_float;
       ty = ty_float f;
       val = vfloat f;
@@ -93,7 +93,7 @@ ieee f =
 
 module _ (N : Scalar) where
   abbrev row : RattleType
-  row = plain_type N.Value N.coded (N.ty ∷ []) N.own N.pure
+  row = plain_type N.Some N.coded (N.ty ∷ []) N.own N.pure
 
   abbrev pub putting : Symbol → Fn
   putting g = record {
@@ -135,7 +135,7 @@ module _ (N : Scalar) where
   stayed = (stay_ref (0 ∷ []) tt (plain (λ _. T.the_row)), (stay_none (λ _. row) yes, tt))
 
   -- g's contract: an equation on the whole record
-  abbrev pub given_clauses : {M : Type 1} (𝓤 : Ura M) → (Registers → N.Value → Registers) → Clauses 𝓤 gives
+  abbrev pub given_clauses : {M : Type 1} (𝓤 : Ura M) → (Registers → N.Some → Registers) → Clauses 𝓤 gives
   given_clauses 𝓤 update κs a = record { ghost = Unit {0}; requires = λ _. emp 𝓤; ensures = λ _ r _. fact 𝓤 (r ≡ update a.0 a.1.0) }
 
   -- the function's own contract
@@ -145,14 +145,14 @@ module _ (N : Scalar) where
   abbrev pub put_clauses : {M : Type 1} (𝓤 : Ura M) → PutEnsured 𝓤 → Clauses 𝓤 puts
   put_clauses 𝓤 E κs a = record { ghost = Unit {0}; requires = λ _. emp 𝓤; ensures = λ _ _ e. E κs a e }
 
-  module _ {M : Type 1} {𝓤 : Ura M} (𝓛 : Logic 𝓤) (update : Registers → N.Value → Registers) where
+  module _ {M : Type 1} {𝓤 : Ura M} (𝓛 : Logic 𝓤) (update : Registers → N.Some → Registers) where
     -- the contract that the walk cites
     open 𝓛 use {H, A}
 
     abbrev pub Callee : Contract 𝓤
     Callee = triple_of 𝓛 gives.signature (closing 𝓛 gives (given_clauses 𝓤 update))
 
-    said : (h : Registers) (n : N.Value) (r : Registers) → ent 𝓤 (ensured 𝓛 gives (given_clauses 𝓤 update) tt (h, (n, tt)) tt r) (fact 𝓤 (r ≡ update h n))
+    said : (h : Registers) (n : N.Some) (r : Registers) → ent 𝓤 (ensured 𝓛 gives (given_clauses 𝓤 update) tt (h, (n, tt)) tt r) (fact 𝓤 (r ≡ update h n))
     said h n r = ex_e 𝓤 _ (λ ws. snd∗ 𝓤 (sem 𝓛 (lasts gives tt (h, (n, tt)) ws)) (fact 𝓤 (r ≡ update h n)))
 
     abbrev pub Follows : PutEnsured 𝓤 → Type 1
@@ -162,10 +162,10 @@ module _ (N : Scalar) where
 
     module _ (E : PutEnsured 𝓤) (follows : Follows E) where
       abbrev makes : Makes 𝓛 row (Is row)
-      makes = plain_Makes 𝓛 N.Value N.coded (N.ty ∷ []) N.own N.pure
+      makes = plain_Makes 𝓛 N.Some N.coded (N.ty ∷ []) N.own N.pure
 
-      module _ (κ : Lft) (q : Share) (b o : ℕ) (γ : GName) (h : Registers) (n : N.Value) where
-        abbrev x : MutBor Registers × (N.Value × Unit {0})
+      module _ (κ : Lft) (q : Share) (b o : ℕ) (γ : GName) (h : Registers) (n : N.Some) where
+        abbrev x : MutBor Registers × (N.Some × Unit {0})
         x = (record { ref_ptr = (b, o); ghost_name = γ; now = h }, (n, tt))
 
         abbrev at : List Val × (List Val × Unit {0})

@@ -7,6 +7,10 @@ use Rattle.face_leaves.proofs.leaves.cattlecleat_from_register.Reads as from-reg
 use Rattle.face_leaves.proofs.leaves.cattlecleat_align.Reads as aligns
 use Rattle.face_leaves.proofs.slot.cattlecleat_done_with.Reads as fills
 use Rattle.face_leaves.proofs.slot.cattlecleat_take_done_reason.Reads as takes
+use Rattle.face_leaves.proofs.slot.DoneReasonFromCReason.from.Reads as reason-in
+use Rattle.face_leaves.proofs.slot.CReasonFromDoneReason.from.Reads as reason-out
+use Rattle.face_leaves.proofs.slot.DoneSlotFromCReason.from.Reads as slot-in
+use Rattle.face_leaves.proofs.slot.CReasonFromDoneSlot.from.Reads as slot-out
 use Rattle.face_leaves.proofs.registers.cattlecleat_read_registers.Reads as registers
 use Rattle.face_leaves.proofs.registers.cattlecleat_put_ireg.Reads as puts-ireg
 use Rattle.face_leaves.proofs.registers.cattlecleat_put_freg32.Reads as puts-freg32
@@ -30,6 +34,18 @@ cattlecleat_done_with_settled κ a r r' e e' p q = p ∙ sym q
 
 pub cattlecleat_take_done_reason_settled : Once takes.Post
 cattlecleat_take_done_reason_settled κ a r r' e e' p q = p ∙ sym q
+
+pub done_reason_from_c_reason_from_settled : Once reason-in.Post
+done_reason_from_c_reason_from_settled κ a r r' e e' p q = p ∙ sym q
+
+pub c_reason_from_done_reason_from_settled : Once reason-out.Post
+c_reason_from_done_reason_from_settled κ a r r' e e' p q = p ∙ sym q
+
+pub done_slot_from_c_reason_from_settled : Once slot-in.Post
+done_slot_from_c_reason_from_settled κ a r r' e e' p q = p ∙ sym q
+
+pub c_reason_from_done_slot_from_settled : Once slot-out.Post
+c_reason_from_done_slot_from_settled κ a r r' e e' p q = p ∙ sym q
 
 pub cattlecleat_read_registers_settled : Once registers.Post
 cattlecleat_read_registers_settled κ a r r' e e' p q = p ∙ sym q

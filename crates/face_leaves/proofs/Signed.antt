@@ -1,27 +1,16 @@
--- The sign of a narrow number in all 64 bits, over the width. Assumes nothing.
-use Rattle.std.proofs.Common.{◌≡◌, ℕ, suc, ◌+◌, ◌-◌, ◌%◌, ◌^◌, ◌<◌, ◌≤◌, Bool, true, false, ltb, pos, negsuc, sym, refl, ◌∙◌, mod-lt, mod-eq_of_lt, arith, pow_pos, w64, of_z}
+-- The sign of a narrow number in all 64 bits, over the width: what is handed on signed is read off its bits each time. Assumes nothing.
+use Rattle.std.proofs.Common.{◌≡◌, ℕ, ℤ, T, leb, ap, ◌∙◌, mod-lt, pow_pos, w64, of_z, to_z}
 use mir.Syntax.{Width}
-use mir.Val.{bits, hbits, sel}
-use Rattle.choice.specs.Choose.{choose}
-use Rattle.regs.specs.Convert.{zero_extended, low_bits, signed_low_bits}
-use Rattle.regs.proofs.Widths.{read_write_signed}
-use Rattle.face_leaves.specs.Types.{signed_bits}
+use mir.Val.{SFits, bits, hbits}
+use mir.Facts.{to_z-of_z, sfits_to_z, sfits_widen}
+use Rattle.regs.specs.Convert.{zero_extended, signed_low_bits}
 
--- a number below 0 lies as far below the end of 64 bits as below the end of its own
-wide : (n b : ℕ) → n < b → b ≤ 2 ^ 64 → (n + (2 ^ 64 - b)) % 2 ^ 64 ≡ 2 ^ 64 - suc (b - suc n)
-wide n b below fits = mod-eq_of_lt (omega (arith, below, fits)) ∙ omega (arith, below, fits)
+module _ (w : Width) (r : ℕ) where
+  reads : SFits w (signed_low_bits w r)
+  reads = sfits_to_z (record { fits = mod-lt r (pow_pos (bits w)) })
 
-by_half : (low : Bool) (n b : ℕ) → n < b → b ≤ 2 ^ 64 → choose low n ((n + (2 ^ 64 - b)) % 2 ^ 64) ≡ of_z w64 (sel low (pos n) (negsuc (b - suc n)))
-unfolding choose
-by_half true n b below fits = refl
-by_half false n b below fits = wide n b below fits
-
-pub sign_extended : (w : Width) (r : ℕ) → 2 ^ bits w ≤ 2 ^ 64
-    → signed_bits (low_bits w r) (2 ^ hbits w) (2 ^ 64 - 2 ^ bits w) ≡ zero_extended w64 (signed_low_bits w r)
-sign_extended w r fits = by_half (ltb (low_bits w r) (2 ^ hbits w)) (low_bits w r) (2 ^ bits w) (mod-lt r (pow_pos (bits w))) fits
-
--- all 64 bits, signed or not
-pub whole_number : (b : Bool) (n : ℕ) → n < 2 ^ 64 → n ≡ choose b (zero_extended w64 (signed_low_bits w64 n)) (low_bits w64 n)
-unfolding choose
-whole_number true n fits = sym (read_write_signed w64 n ∙ mod-eq_of_lt fits)
-whole_number false n fits = sym (mod-eq_of_lt fits)
+  pub sign_extended : T (leb (hbits w) (hbits w64)) → (x y : ℤ) → x ≡ signed_low_bits w r → y ≡ to_z w (of_z w x)
+      → zero_extended w64 (to_z w64 (of_z w64 y)) ≡ zero_extended w64 (signed_low_bits w r)
+  sign_extended k x y p q =
+      let same : y ≡ signed_low_bits w r = q ∙ ap (λ z. to_z w (of_z w z)) p ∙ to_z-of_z reads in
+      ap (λ z. zero_extended w64 (to_z w64 (of_z w64 z))) same ∙ ap (zero_extended w64) (to_z-of_z {w = w64} (sfits_widen k reads))

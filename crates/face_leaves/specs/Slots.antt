@@ -9,8 +9,7 @@ use Rattle.choice.specs.Choose.{choose}
 use Rattle.done.specs.declared.DoneReason.{DoneReason}
 use Rattle.done.specs.declared.DoneReason.TheVariants.{Returned, HostError, OutOfFuel, Error}
 use Rattle.done.specs.declared.DoneSlot.{DoneSlot}
-use Rattle.done.specs.declared.DoneSlot.TheVariants.{Empty, Holds}
-use Rattle.done.specs.Done.{reason_number, reason_value, held_reason, held_value, ShownFill, ShownTake}
+use Rattle.done.specs.Done.{no_reason, holds_reason, reason_number, reason_value, held_reason, held_value, ShownFill, ShownTake}
 use Rattle.face_leaves.specs.declared.slot.CReason.{CReason}
 use Rattle.face_leaves.specs.declared.slot.CDone.{CDone}
 
@@ -28,7 +27,7 @@ abbrev pub reason_to : DoneReason → CReason
 reason_to r = reason_with (reason_number r) (reason_value r)
 
 unfoldable pub slot_said : CReason → DoneSlot
-slot_said c = choose (c.kind == 0) Empty (Holds (reason_said c))
+slot_said c = choose (c.kind == 0) no_reason (holds_reason (reason_said c))
 
 abbrev pub slot_to : DoneSlot → CReason
 slot_to s = reason_with (held_reason s) (held_value s)

@@ -2,11 +2,10 @@
 --     record_spelt q    each number in the field of its name, whatever the kind uses, and the flags by whether each is given
 -- Statements: SpeltSaid, where the record spelt keeps the rules of its kind, it is the record of the request that the numbers say; SpeltAgain, the numbers
 -- of a record that keeps them spell that record.
-use Rattle.std.specs.Prelude.{◌≡◌, ◌+◌, true}
+use Rattle.std.specs.Prelude.{◌≡◌, ◌+◌, true, Ok}
 use Rattle.record.specs.declared.Record.{Record}
 use Rattle.record.specs.Form.{record_with}
 use Rattle.record.specs.Kinds.{lawful_record}
-use Rattle.request.specs.declared.Decoded.TheVariants.{Asks}
 use Rattle.request.specs.Requests.{flag_bit, record_for, request_in}
 use Rattle.face.specs.declared.requests.CRequest.{CRequest}
 use Rattle.face.specs.Requests.{caller_from, instance_from, request_from, request_to}
@@ -20,7 +19,7 @@ record_spelt q =
 abbrev pub SpeltSaid : Type 0
 SpeltSaid =
     (q : CRequest) → lawful_record (record_spelt q) ≡ true
-    → (request_from q ≡ Asks (request_in (record_spelt q))) × (record_for (request_in (record_spelt q)) ≡ record_spelt q)
+    → (request_from q ≡ Ok (request_in (record_spelt q))) × (record_for (request_in (record_spelt q)) ≡ record_spelt q)
 
 abbrev pub SpeltAgain : Type 0
 SpeltAgain = (r : Record) → lawful_record r ≡ true → record_spelt (request_to r) ≡ r

@@ -2,8 +2,7 @@
 -- taken as u64. A number goes in and out as 64 bits, a signed one with its sign in all of them.
 --     register_for type number      the register of a number, of which the low bits count
 --     number_for type register      the number that a register reads as
---     signed_bits low half rest     low bits with the rest added from half their range on: how the code has a sign in all 64 bits
-use Rattle.std.specs.Prelude.{ℕ, ◌+◌, ◌%◌, ◌^◌, pos, ◌==◌, nat_lt}
+use Rattle.std.specs.Prelude.{ℕ, pos, ◌==◌}
 use Rattle.std.specs.Int.{Width, w8, w16, w32, w64}
 use Rattle.choice.specs.Choose.{choose}
 use Rattle.regs.specs.Convert.{zero_extended, low_bits, signed_low_bits, truth_bit, truth_of}
@@ -28,6 +27,3 @@ register_for type number =
 unfoldable pub number_for : (type register : ℕ) → ℕ
 number_for type register =
     by_type type (λ w. low_bits w register) (λ w. zero_extended w64 (signed_low_bits w register)) (truth_bit (truth_of register))
-
-abbrev pub signed_bits : (low half rest : ℕ) → ℕ
-signed_bits low half rest = choose (nat_lt low half) low ((low + rest) % 2 ^ 64)

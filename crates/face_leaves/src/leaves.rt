@@ -1,13 +1,10 @@
 // Conversions to and from the integer register, by the number of a type, and the aligned address.
 ghost use Rattle.std.specs.Prelude.{◌≡◌};
 ghost use Rattle.regs.specs.Align.{aligned};
-ghost use Rattle.face_leaves.specs.Types.{register_for, signed_bits, number_for};
+ghost use Rattle.face_leaves.specs.Types.{register_for, number_for};
 ghost use Rattle.face_leaves.specs.Addresses.{aligned_told};
 
-use regs::{
-    Aligned, NO_ADDRESS, align_relative_to, from_bool, from_u8, from_u16, from_u32, to_bool, to_u8,
-    to_u16, to_u32,
-};
+use regs::{InRegister, align_relative_to};
 
 // The types of numbers; any other is taken as u64.
 const U8: u64 = 1;
@@ -22,6 +19,8 @@ const I16: u64 = 6;
 
 const I32: u64 = 7;
 
+const I64: u64 = 8;
+
 const BOOL: u64 = 9;
 
 #[repr(C)]
@@ -31,47 +30,48 @@ pub struct CAligned {
     pub address: u64,
 }
 
-// The register of a number. Types: 1 to 4 u8, u16, u32, u64; 5 to 8 i8, i16, i32, i64; 9 bool; any other is taken as u64. The number's low bits count,
-// a signed one's as an unsigned one's.
+// The register of a number. Types: 1 to 4 u8, u16, u32, u64; 5 to 8 i8, i16, i32, i64; 9 bool; any other is taken as u64. The number's low bits count.
+// The kinds are numbers, as they cross to C.
+#[tactic(auto, using(choice::proofs::Choices::choices), unfolding(crate::specs::Types::register_for))]
 pub fn cattlecleat_to_register(kind: u64, number: u64) -> u64
     ensures { result ≡ register_for kind number }
 {
     match kind {
-        U8 => from_u8(to_u8(number)),
-        U16 => from_u16(to_u16(number)),
-        U32 => from_u32(to_u32(number)),
-        I8 => from_u8(to_u8(number)),
-        I16 => from_u16(to_u16(number)),
-        I32 => from_u32(to_u32(number)),
-        BOOL => from_bool(to_bool(number)),
-        _ => number,
+        U8 => register_of::<u8>(number),
+        U16 => register_of::<u16>(number),
+        U32 => register_of::<u32>(number),
+        I8 => register_of::<i8>(number),
+        I16 => register_of::<i16>(number),
+        I32 => register_of::<i32>(number),
+        I64 => register_of::<i64>(number),
+        BOOL => register_of::<bool>(number),
+        _ => register_of::<u64>(number),
     }
 }
 
 // The number of a register, by the same types; a signed one has its sign in all 64 bits.
+#[tactic(auto, using(choice::proofs::Choices::choices), unfolding(crate::specs::Types::number_for))]
 pub fn cattlecleat_from_register(kind: u64, register: u64) -> u64
     ensures { result ≡ number_for kind register }
 {
     match kind {
-        U8 => to_u8(register) as u64,
-        U16 => to_u16(register) as u64,
-        U32 => to_u32(register) as u64,
-        I8 => sign_extended(register % 0x100, 0x80, 0xffff_ffff_ffff_ff00),
-        I16 => sign_extended(register % 0x1_0000, 0x8000, 0xffff_ffff_ffff_0000),
-        I32 => sign_extended(register % 0x1_0000_0000, 0x8000_0000, 0xffff_ffff_0000_0000),
-        BOOL => from_bool(to_bool(register)),
-        _ => register,
+        U8 => register_of::<u8>(register),
+        U16 => register_of::<u16>(register),
+        U32 => register_of::<u32>(register),
+        I8 => i64::from(i8::from_register(register)).into_register(),
+        I16 => i64::from(i16::from_register(register)).into_register(),
+        I32 => i64::from(i32::from_register(register)).into_register(),
+        I64 => register_of::<i64>(register),
+        BOOL => register_of::<bool>(register),
+        _ => register_of::<u64>(register),
     }
 }
 
-// Low bits with their sign in all 64 bits: from half their range on, the rest is added.
-fn sign_extended(low: u64, half: u64, rest: u64) -> u64
-    ensures { result ≡ signed_bits low half rest }
+// The register of the number of a type that these bits say.
+fn register_of<T: InRegister>(bits: u64) -> u64
+    ensures { result ≡ T.bits_in (T.read_from bits) }
 {
-    if low < half {
-        return low;
-    }
-    std::num::wrapping_add_u64(low, rest)
+    T::from_register(bits).into_register()
 }
 
 // Base plus the distance of ip from it, rounded up to a multiple of 8. 15.
@@ -79,9 +79,9 @@ pub fn cattlecleat_align(ip: u64, base: u64) -> CAligned
     ensures { result ≡ aligned_told (aligned ip base) }
 {
     match align_relative_to(ip, base) {
-        Aligned::At(address) => CAligned { number: 0, address },
-        Aligned::Refused => CAligned {
-            number: NO_ADDRESS,
+        Ok(address) => CAligned { number: 0, address },
+        Err(refusal) => CAligned {
+            number: refusal.into(),
             address: 0,
         },
     }

@@ -1,14 +1,14 @@
 // Single records read and written as the numbers of a request.
 ghost use Rattle.std.specs.Prelude.{◌≡◌, ◌<◌, ◌≤◌};
-ghost use Rattle.given.specs.Given.{given_if};
+ghost use Rattle.std.specs.Bool.{then_some};
 ghost use Rattle.regs.specs.Convert.{truth_of};
 ghost use Rattle.record.specs.Reading.{read_at, write_number, written_number};
 ghost use Rattle.request.specs.Requests.{flag_bit};
 ghost use Rattle.face_leaves.specs.Spelt.{record_spelt};
 ghost use Rattle.face_leaves.specs.Records.{read_told, written_by};
 
-use face::{CRequest, SET, request_to};
-use record::{BAD_RECORD, Read, Record, Written, ZERO_RECORD, read_record, write_record};
+use face::{CRequest, SET};
+use record::{BAD_RECORD, BadRecord, Record, ZERO_RECORD, read_record, write_record};
 
 #[repr(C)]
 #[derive(Clone, Copy)]
@@ -27,13 +27,13 @@ pub fn cattlecleat_read_record(bytes: &[u8], at: usize) -> CRead
     ensures { result ≡ read_told (read_at bytes.now at) }
 {
     match read_record(bytes, at) {
-        Read::Found(r) => CRead {
+        Ok(r) => CRead {
             number: 0,
-            request: request_to(r),
+            request: CRequest::from(r),
         },
-        Read::Bad => CRead {
+        Err(BadRecord) => CRead {
             number: BAD_RECORD,
-            request: request_to(ZERO_RECORD),
+            request: CRequest::from(ZERO_RECORD),
         },
     }
 }
@@ -49,16 +49,17 @@ pub fn cattlecleat_write_record(bytes: &mut [u8], at: usize, q: CRequest) -> u64
     written_number(write_record(bytes, at, record_spelt(q)))
 }
 
-fn written_number(w: Written) -> u64
+fn written_number(w: Result<(), BadRecord>) -> u64
     ensures { result ≡ written_number w }
 {
     match w {
-        Written::Done => 0,
-        Written::Bad => BAD_RECORD,
+        Ok(()) => 0,
+        Err(BadRecord) => BAD_RECORD,
     }
 }
 
 // The record that the numbers of one of the nine kinds spell: what the kind does not use is spelt too.
+// No From: a CRequest is of the crate face, and a Record of record.
 fn record_spelt(q: CRequest) -> Record
     requires { q.kind < 256 }
     ensures { result ≡ record_spelt q }
@@ -80,7 +81,7 @@ fn record_spelt(q: CRequest) -> Record
 
 // What a flag of a struct counts for in the flags of a record.
 fn flag_spelt(flag: u64, number: u64, bit: u8) -> u8
-    ensures value { result ≡ flag_bit (given_if (truth_of flag) number) bit }
+    ensures value { result ≡ flag_bit (then_some (truth_of flag) number) bit }
     ensures upper_bound { result ≤ bit }
 {
     if flag == 0 {

@@ -2,6 +2,8 @@
 --     moved_held                    after a request that moves count, `len` and current instance
 --     len_held                      after one that moves `len` alone
 --     emptied_held, laid_held       after a reset, and after a register sync: the registers in words
+use Rattle.std.specs.Prelude.{Option, None, Some}
+use Rattle.std.specs.Bool.{then_some}
 use mathlib.Core.Path.{◌≡◌, refl, ap}
 use mathlib.Core.Bool.{Bool, true, false, not}
 use mathlib.Core.List.{List, [], ◌∷◌}
@@ -10,9 +12,6 @@ use native.Mathlib.Omega.{arith}
 use lib.Dec.{eqb}
 use lib.ListN.{length, set}
 use Rattle.choice.specs.Choose.{choose}
-use Rattle.given.specs.declared.Given.{Given}
-use Rattle.given.specs.declared.Given.TheVariants.{Absent, Value}
-use Rattle.given.specs.Given.{given_if}
 use Rattle.regs.specs.declared.registers.Registers.{Registers}
 use Rattle.regs.specs.Registers.{zero_registers}
 use Rattle.rules.specs.declared.State.{State}
@@ -39,8 +38,8 @@ module _ (regs regs' : Registers) (count len a b c d e f g h : ℕ) (rest : List
   abbrev words : List ℕ
   words = a ∷ b ∷ c ∷ d ∷ e ∷ f ∷ g ∷ h ∷ rest
 
-  none_in : state_held (moved_put words (moved_state (state_held words regs) count Absent len)) regs'
-      ≡ state_with (moved_state (state_held words regs) count Absent len) regs'
+  none_in : state_held (moved_put words (moved_state (state_held words regs) count None len)) regs'
+      ≡ state_with (moved_state (state_held words regs) count None len) regs'
   unfolding none_held choose
   none_in = by (eqb g 0) refl
     where
@@ -48,17 +47,17 @@ module _ (regs regs' : Registers) (count len a b c d e f g h : ℕ) (rest : List
       moved = set (set words 4 count) 5 len
 
       by : (t : Bool) → eqb g 0 ≡ t → state_held (choose t moved (set (set moved 6 0) 7 0)) regs'
-          ≡ state_with (moved_state (state_held words regs) count Absent len) regs'
-      by true t = ap (λ u. state_with (moved_state (state_held words regs) count (given_if (not u) h) len) regs') t
+          ≡ state_with (moved_state (state_held words regs) count None len) regs'
+      by true t = ap (λ u. state_with (moved_state (state_held words regs) count (then_some (not u) h) len) regs') t
       by false t = refl
 
 module _ (regs regs' : Registers) (count len : ℕ) where
-  moved_in : (st : List ℕ) → Eight st → (g : Given)
+  moved_in : (st : List ℕ) → Eight st → (g : Option ℕ)
       → state_held (moved_put st (moved_state (state_held st regs) count g len)) regs' ≡ state_with (moved_state (state_held st regs) count g len) regs'
-  moved_in _ (eight a b c d e f g h rest) Absent = none_in regs regs' count len a b c d e f g h rest
-  moved_in _ (eight a b c d e f g h rest) (Value n) = refl
+  moved_in _ (eight a b c d e f g h rest) None = none_in regs regs' count len a b c d e f g h rest
+  moved_in _ (eight a b c d e f g h rest) (Some n) = refl
 
-  pub moved_held : (st : List ℕ) → 8 ≤ length st → (g : Given)
+  pub moved_held : (st : List ℕ) → 8 ≤ length st → (g : Option ℕ)
       → state_held (moved_put st (moved_state (state_held st regs) count g len)) regs' ≡ state_with (moved_state (state_held st regs) count g len) regs'
   moved_held st long = moved_in st (eight_words st long)
 
@@ -84,11 +83,11 @@ eleven_words : (st : List ℕ) → 11 ≤ length st → Eleven st
 eleven_words st long = eleven_after st (eight_words st (omega arith)) long
 
 emptied_in : (st : List ℕ) → Eleven st → (regs : Registers) → state_held (emptied_put st) (registers_held (emptied_put st) 8)
-    ≡ state_with (moved_state (state_held st regs) 0 Absent 0) zero_registers
+    ≡ state_with (moved_state (state_held st regs) 0 None 0) zero_registers
 emptied_in _ (eleven a b c d e f g h i j k rest) regs = refl
 
 pub emptied_held : (st : List ℕ) → 11 ≤ length st → (regs : Registers) → state_held (emptied_put st) (registers_held (emptied_put st) 8)
-    ≡ state_with (moved_state (state_held st regs) 0 Absent 0) zero_registers
+    ≡ state_with (moved_state (state_held st regs) 0 None 0) zero_registers
 emptied_held st long = emptied_in st (eleven_words st long)
 
 laid_in : (st : List ℕ) → Eleven st → (ws : List ℕ) (regs : Registers) → state_held (registers_laid st ws) (registers_held (registers_laid st ws) 8)

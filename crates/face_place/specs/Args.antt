@@ -5,8 +5,8 @@
 --     host_frame_held           the host's frame that three words say: its counts are in the last
 use Rattle.std.specs.Prelude.{List, ℕ, ◌/◌, ◌^◌, get_or}
 use Rattle.std.specs.Int.{w16}
+use Rattle.std.specs.Bool.{then_some}
 use Rattle.cells.specs.declared.host.HostFrame.{HostFrame}
-use Rattle.given.specs.Given.{given_if}
 use Rattle.regs.specs.Convert.{low_bits, truth_of}
 use Rattle.rules.specs.declared.PushArgs.{PushArgs}
 use Rattle.rules.specs.declared.ReplaceArgs.{ReplaceArgs}
@@ -19,13 +19,13 @@ count_in word place = low_bits w16 (word / 65536 ^ place)
 
 abbrev pub push_held : List ℕ → PushArgs
 push_held q = record {
-  caller = given_if (truth_of (get_or q 1 0)) (get_or q 2 0);
+  caller = then_some (truth_of (get_or q 1 0)) (get_or q 2 0);
   callee = get_or q 3 0;
   head = low_bits w16 (get_or q 0 0);
   params = count_in (get_or q 0 0) 1;
   locals = count_in (get_or q 0 0) 2;
   slots = count_in (get_or q 0 0) 3;
-  instance = given_if (truth_of (get_or q 4 0)) (get_or q 5 0);
+  instance = then_some (truth_of (get_or q 4 0)) (get_or q 5 0);
 }
 
 abbrev pub replace_held : List ℕ → ReplaceArgs
@@ -35,12 +35,12 @@ replace_held q = record {
   params = count_in (get_or q 0 0) 1;
   locals = count_in (get_or q 0 0) 2;
   slots = count_in (get_or q 0 0) 3;
-  instance = given_if (truth_of (get_or q 2 0)) (get_or q 3 0);
+  instance = then_some (truth_of (get_or q 2 0)) (get_or q 3 0);
 }
 
 abbrev pub host_held : List ℕ → HostArgs
 host_held q = record {
-  caller = given_if (truth_of (get_or q 1 0)) (get_or q 2 0);
+  caller = then_some (truth_of (get_or q 1 0)) (get_or q 2 0);
   head = low_bits w16 (get_or q 0 0);
   params = count_in (get_or q 0 0) 1;
   results = count_in (get_or q 0 0) 2;

@@ -9,14 +9,12 @@
 --     registers_laid st ws           with these three in place of the registers
 --     emptied_put st                 with no frame, no instance, `len` and registers 0
 --     unless_refused number st st'   the words after an answer with this number: on a refusal as they came
-use Rattle.std.specs.Prelude.{List, [], ◌∷◌, ℕ, ◌+◌, leb, eqb, get_or, set}
+use Rattle.std.specs.Prelude.{List, [], ◌∷◌, ℕ, ◌+◌, leb, eqb, get_or, set, Option, None, Some}
 use Rattle.std.specs.Float.Ieee.{of_bits}
 use Rattle.std.specs.Float.{binary32, binary64}
 use Rattle.std.specs.Int.{w32}
+use Rattle.std.specs.Bool.{then_some}
 use Rattle.choice.specs.Choose.{choose}
-use Rattle.given.specs.declared.Given.{Given}
-use Rattle.given.specs.declared.Given.TheVariants.{Absent, Value}
-use Rattle.given.specs.Given.{given_if}
 use Rattle.regs.specs.Convert.{low_bits, truth_of}
 use Rattle.regs.specs.declared.registers.Registers.{Registers}
 use Rattle.regs.specs.Registers.{registers_of}
@@ -30,7 +28,7 @@ state_of depth height words cells count len flag current regs = record {
   cells = cells;
   count = count;
   len = len;
-  current = given_if (truth_of flag) current;
+  current = then_some (truth_of flag) current;
   regs = regs;
 }
 
@@ -46,9 +44,9 @@ registers_held ws at = registers_of (get_or ws at 0) (of_bits binary32 (low_bits
 unfoldable pub none_held : List ℕ → List ℕ
 none_held st = choose (eqb (get_or st 6 0) 0) st (set (set st 6 0) 7 0)
 
-abbrev pub current_put : List ℕ → Given → List ℕ
-current_put st Absent = none_held st
-current_put st (Value instance) = set (set st 6 1) 7 instance
+abbrev pub current_put : List ℕ → Option ℕ → List ℕ
+current_put st None = none_held st
+current_put st (Some instance) = set (set st 6 1) 7 instance
 
 abbrev pub moved_put : List ℕ → State → List ℕ
 moved_put st s = current_put (set (set st 4 s.count) 5 s.len) s.current

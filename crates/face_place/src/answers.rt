@@ -4,8 +4,8 @@ ghost use Rattle.rules.specs.Answers.{shown_answer, host_values, no_values, show
 ghost use Rattle.face_place.specs.Placed.{offset_told, frame_told, hosted_told, returned_told};
 
 use cells::HostFrame;
-use rules::Answer;
-use stack::{answer_number, answer_offset, no_host, refusal_number};
+use rules::{Refusal, Reply};
+use stack::{answer_number, answer_offset, no_host};
 
 // Two registers of the machine.
 #[repr(C)]
@@ -45,7 +45,8 @@ pub struct CReturned {
     pub host: HostFrame,
 }
 
-pub(crate) fn offset_told(answer: Answer) -> COffset
+// Four functions, no From: an impl would be public, a promise and a lemma more each, where only this crate tells answers so.
+pub(crate) fn offset_told(answer: Result<Reply, Refusal>) -> COffset
     ensures { result ≡ offset_told (shown_answer answer) }
 {
     COffset {
@@ -54,13 +55,13 @@ pub(crate) fn offset_told(answer: Answer) -> COffset
     }
 }
 
-pub(crate) fn frame_told(answer: Answer) -> CFrame
+pub(crate) fn frame_told(answer: Result<Reply, Refusal>) -> CFrame
     ensures { result ≡ frame_told (shown_answer answer) }
 {
     match answer {
-        Answer::Refused(why) => no_frame(refusal_number(why)),
-        Answer::Gone(_) => no_frame(1),
-        Answer::Done(values) => CFrame {
+        Err(why) => no_frame(u64::from(why)),
+        Ok(Reply::Gone(_)) => no_frame(1),
+        Ok(Reply::Done(values)) => CFrame {
             number: 0,
             offset: values.offset,
             ip: values.ip,
@@ -80,21 +81,21 @@ fn no_frame(number: u64) -> CFrame
     }
 }
 
-pub(crate) fn hosted_told(answer: Answer) -> CHosted
+pub(crate) fn hosted_told(answer: Result<Reply, Refusal>) -> CHosted
     ensures { result ≡ hosted_told (shown_answer answer) }
 {
     match answer {
-        Answer::Refused(why) => CHosted {
-            number: refusal_number(why),
+        Err(why) => CHosted {
+            number: u64::from(why),
             offset: 0,
             host: no_host(),
         },
-        Answer::Gone(host) => CHosted {
+        Ok(Reply::Gone(host)) => CHosted {
             number: 1,
             offset: 0,
             host,
         },
-        Answer::Done(values) => {
+        Ok(Reply::Done(values)) => {
             let host = values.host;
             CHosted {
                 number: 0,
@@ -105,13 +106,13 @@ pub(crate) fn hosted_told(answer: Answer) -> CHosted
     }
 }
 
-pub(crate) fn returned_told(answer: Answer) -> CReturned
+pub(crate) fn returned_told(answer: Result<Reply, Refusal>) -> CReturned
     ensures { result ≡ returned_told (shown_answer answer) }
 {
     match answer {
-        Answer::Refused(why) => host_alone(refusal_number(why), no_host()),
-        Answer::Gone(host) => host_alone(1, host),
-        Answer::Done(values) => {
+        Err(why) => host_alone(u64::from(why), no_host()),
+        Ok(Reply::Gone(host)) => host_alone(1, host),
+        Ok(Reply::Done(values)) => {
             let host = values.host;
             CReturned {
                 number: 0,

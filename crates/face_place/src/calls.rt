@@ -11,6 +11,7 @@ use crate::state::{move_state, state_held};
 use stack_calls::{pop_frame, push_frame, replace_frame};
 
 // Calls: the offset is the new frame's start. 9, 2 (depth), 4 or 6, 5, 2, 3.
+#[tactic(auto, using(crate::proofs::Placing::is_placed))]
 pub fn cattlecleat_push_frame(
     state: &mut [u64; 8],
     words: &mut [u64],
@@ -29,6 +30,7 @@ pub fn cattlecleat_push_frame(
 }
 
 // Returns: 1 where the last frame is gone; else the ip and start of the frame below, and the debt or else the instance given. 9, 4.
+#[tactic(auto, using(crate::proofs::Placing::is_placed))]
 pub fn cattlecleat_pop_frame(
     state: &mut [u64; 8],
     words: &[u64],
@@ -47,6 +49,7 @@ pub fn cattlecleat_pop_frame(
 }
 
 // Calls in place of the newest frame: the offset is its start. 9, 4, 5, 2, 3, 7.
+#[tactic(auto, using(crate::proofs::Placing::is_placed))]
 pub fn cattlecleat_replace_frame(
     state: &mut [u64; 8],
     words: &mut [u64],

@@ -14,6 +14,7 @@ use face::{CPart, part_told};
 use stack_hosts::{prepare_host_frame, return_prepare_host_frame};
 
 // Prepares a host's frame: the offset is the newest frame's start. 9, 4, 2, 3.
+#[tactic(auto, using(crate::proofs::Placing::is_placed))]
 pub fn cattlecleat_prepare_host_frame(
     state: &mut [u64; 8],
     words: &mut [u64],
@@ -32,6 +33,7 @@ pub fn cattlecleat_prepare_host_frame(
 }
 
 // Returns through a host's frame at the start of the frame that goes: the offset is the caller's start, or 0 with answer 1. 9, 4, 7, 2, 3.
+#[tactic(auto, using(crate::proofs::Placing::is_placed))]
 pub fn cattlecleat_return_prepare_host_frame(
     state: &mut [u64; 8],
     words: &[u64],
@@ -50,6 +52,7 @@ pub fn cattlecleat_return_prepare_host_frame(
 }
 
 // Where a host's part lies. 9, 11. An empty part is at 0.
+#[tactic(auto, using(face::proofs::Lent::part_told_at))]
 pub fn cattlecleat_host_part_in_place(
     state: &[u64; 8],
     words: &[u64],

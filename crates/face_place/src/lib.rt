@@ -1,6 +1,7 @@
 // The C face with the state in place: one function for each request, which takes a state, its arguments and a host's frame as they lie in memory, as
 // words, and hands back a small answer. Every word means something, so every argument gets an answer. include/cattlecleat.h says what each function
 // means, and which of its structs these words are.
+// Each entry point is four lines: as closures for one that all share they would be three.
 #![tactic(auto)]
 
 mod answers;

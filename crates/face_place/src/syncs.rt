@@ -8,10 +8,10 @@ ghost use Rattle.face_place.specs.Placed.{stored_after, placed_after};
 
 use crate::answers::{CFrame, COffset, frame_told, offset_told};
 use crate::state::{empty_state, put_registers, state_held, whole_held};
-use rules::Judgement;
-use stack::{answer_number, judge_sync_regs, refusal_number, reset, restore_frame, set, sync_ip};
+use stack::{answer_number, judge_sync_regs, reset, restore_frame, set, sync_ip};
 
 // Stores an ip in the newest frame; the offset is its start. 9, 4.
+#[tactic(auto, using(crate::proofs::Placing::is_placed))]
 pub fn cattlecleat_sync_ip(state: &[u64; 8], words: &mut [u64], cells: &[u64], ip: u64) -> COffset
     ensures { placed result state.now words.new cells.now
         ≡ placed_after offset_told same_after state.now
@@ -23,6 +23,7 @@ pub fn cattlecleat_sync_ip(state: &[u64; 8], words: &mut [u64], cells: &[u64], i
 }
 
 // Reads back the newest frame's ip, its start (the offset) and the current instance; the registers are in the state. 9, 4, 8.
+#[tactic(auto, using(crate::proofs::Placing::is_placed))]
 pub fn cattlecleat_restore_frame(state: &[u64; 8], words: &[u64], cells: &[u64]) -> CFrame
     ensures { placed result state.now words.now cells.now
         ≡ placed_after frame_told same_after state.now
@@ -34,6 +35,7 @@ pub fn cattlecleat_restore_frame(state: &[u64; 8], words: &[u64], cells: &[u64])
 }
 
 // Writes one cell at the newest frame's start plus `head`; the offset is its index. 9, 4, 7.
+#[tactic(auto, using(crate::proofs::Placing::is_placed))]
 pub fn cattlecleat_set(
     state: &[u64; 8],
     words: &[u64],
@@ -51,6 +53,7 @@ pub fn cattlecleat_set(
 }
 
 // Empties frames, `len`, instance and registers. Only 9 refuses it.
+#[tactic(auto, using(crate::proofs::Placing::is_placed))]
 pub fn cattlecleat_reset(state: &mut [u64; 11], words: &[u64], cells: &[u64]) -> u64
     ensures { placed result state.new words.now cells.now
         ≡ placed_after number_told emptied_after state.old
@@ -74,8 +77,8 @@ pub fn cattlecleat_sync_registers_in_place(
         (answered_in state.old words.now cells.now (SyncRegs (registers_held regs.now 0))) }
 {
     match judge_sync_regs(whole_held(state), words, cells) {
-        Judgement::Refuse(why) => refusal_number(why),
-        Judgement::Accept(_) => {
+        Err(why) => u64::from(why),
+        Ok(_) => {
             put_registers(state, regs);
             0
         }

@@ -6,22 +6,21 @@
 --     state_as_it_came             so the state comes back number for number
 --     running_said_lem                 what is handed back, with both buffers, says the replay in its course
 --     replay_run_said, replay_state_said     of any result that the promise of `cattlecleat_replay` allows
+use Rattle.std.specs.Prelude.{Option, None, Some, is_some}
+use Rattle.std.specs.Bool.{then_some}
 use mathlib.Core.Path.{◌≡◌, refl, sym, ap, ◌∙◌}
 use mathlib.Core.Bool.{Bool, true, false, not, false≢true}
 use mathlib.Core.List.{List, [], ◌∷◌}
 use Prim.Native.Nat.{ℕ, ◌≤◌}
 use borrow.Author.Tests.{ltb-false, eqb-true, eq-eqb}
+use Rattle.std.specs.Prelude.{Ok, Err}
 use Rattle.choice.proofs.Bools.{neither, held_passes}
 use Rattle.choice.proofs.Choices.{chosen_where, chosen_first}
-use Rattle.given.specs.declared.Given.{Given}
-use Rattle.given.specs.declared.Given.TheVariants.{Absent, Value}
-use Rattle.given.specs.Given.{is_given, given_if}
 use Rattle.regs.specs.Convert.{truth_of}
 use Rattle.rules.specs.declared.Asked.TheVariants.{Traced}
 use Rattle.rules.specs.World.{World, world_of}
 use Rattle.rules.proofs.Verdicts.{refused_unchanged}
-use Rattle.request.specs.declared.Decoded.{Decoded}
-use Rattle.request.specs.declared.Decoded.TheVariants.{Asks, Bad}
+use Rattle.request.specs.Requests.{Decoded}
 use Rattle.request.specs.Entries.{entries_in}
 use Rattle.replay.specs.Running.{Running, ShownRan, answer_to, running_of, run_of, ran, ran_all, replayed}
 use Rattle.replay.proofs.Spent.{RanVerdict, had_stopped, stops_before, goes_on, ran_verdict, stop_stays}
@@ -36,22 +35,22 @@ use Rattle.face_replay.proofs.traces.cattlecleat_replay.Reads as replays
 
 -- ---- a flag and the number beside it
 
-abbrev said_by : Flagged → Given
-said_by f = given_if (truth_of f.flag) f.number
+abbrev said_by : Flagged → Option ℕ
+said_by f = then_some (truth_of f.flag) f.number
 
 -- what they are found to say, they say; by the flag's truth
-found_by : (t : Bool) (n : ℕ) (g : Given) → is_said t n g ≡ true → given_if t n ≡ g
-found_by true n Absent e = absurd (false≢true e)
-found_by false n Absent e = refl
-found_by true n (Value m) e = ap Value (eqb-true n m e)
-found_by false n (Value m) e = absurd (false≢true e)
+found_by : (t : Bool) (n : ℕ) (g : Option ℕ) → is_said t n g ≡ true → then_some t n ≡ g
+found_by true n None e = absurd (false≢true e)
+found_by false n None e = refl
+found_by true n (Some m) e = ap Some (eqb-true n m e)
+found_by false n (Some m) e = absurd (false≢true e)
 
 -- and the other way about
-said_by_lem : (t : Bool) (n : ℕ) → is_said t n (given_if t n) ≡ true
+said_by_lem : (t : Bool) (n : ℕ) → is_said t n (then_some t n) ≡ true
 said_by_lem true n = eq-eqb n n refl
 said_by_lem false n = refl
 
-flagged_said : (f : Flagged) (g : Given) → said_by (flagged_back f g) ≡ g
+flagged_said : (f : Flagged) (g : Option ℕ) → said_by (flagged_back f g) ≡ g
 unfolding flagged_back
 flagged_said f g =
     chosen_where (λ x. said_by x ≡ g) (says f g) _ _ (found_by (truth_of f.flag) f.number g) (λ e. given_kept g)
@@ -110,21 +109,21 @@ pub stopped_as_it_came : StoppedAsItCame
 unfolding replayed
 stopped_as_it_came c words cells bytes stopped =
     let v = running_from c words cells in
-    let given : is_given v.stop ≡ true = ap (λ t. is_given (given_if t c.cost)) stopped in
+    let given : is_some v.stop ≡ true = ap (λ t. is_some (then_some t c.cost)) stopped in
     ap (running_back c) (stop_stays v (entries_in bytes) given) ∙ ap (λ r. run_told r words cells) (run_back_lem c)
 
 -- ---- where no record is accepted
 
 refused_world : (w : World) (d : Decoded) → 2 ≤ (answer_to w d).shown.number → (answer_to w d).world ≡ w
-refused_world w (Asks q) two = (refused_unchanged w (Traced q) two).0
-refused_world w Bad two = refl
+refused_world w (Ok q) two = (refused_unchanged w (Traced q) two).0
+refused_world w (Err e) two = refl
 
 -- one record, by its cases
 record_refused : {v : Running} {d : Decoded} {x : ShownRan} {costs : List ℕ} → RanVerdict v d x costs → was_accepted x ≡ false → x.run.world ≡ v.world
 record_refused (had_stopped e) none = refl
 record_refused (stops_before e h) none = refl
 record_refused {v = v} {d = d} (goes_on e h) none =
-    refused_world v.world d (ltb-false _ _ (held_passes (not (is_given v.stop)) _ none (ap not e)))
+    refused_world v.world d (ltb-false _ _ (held_passes (not (is_some v.stop)) _ none (ap not e)))
 
 pub none_accepted : (v : Running) (ds : List Decoded) → any_accepted v ds ≡ false → (ran_all v ds).world ≡ v.world
 unfolding ran_all any_accepted

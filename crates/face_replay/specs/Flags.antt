@@ -2,11 +2,8 @@
 --     says f g, flagged_back f g    whether a flag and the number beside it say g; g handed back for them: as they came where they say it
 --     state_back c s                the numbers of a state handed back for those that came
 -- Statements: StateSaid, what is handed back says the state; StateBack, one that has not changed comes back number for number.
-use Rattle.std.specs.Prelude.{◌≡◌, Bool, not, ◌&&◌, ℕ, eqb}
+use Rattle.std.specs.Prelude.{◌≡◌, Bool, not, ◌&&◌, ℕ, eqb, Option, None, Some, is_some, unwrap_or}
 use Rattle.choice.specs.Choose.{choose}
-use Rattle.given.specs.declared.Given.{Given}
-use Rattle.given.specs.declared.Given.TheVariants.{Absent, Value}
-use Rattle.given.specs.Given.{is_given, given_number}
 use Rattle.regs.specs.Convert.{truth_bit, truth_of}
 use Rattle.rules.specs.declared.State.{State}
 use Rattle.face.specs.declared.state.CState.{CState}
@@ -16,15 +13,15 @@ use Rattle.face_replay.specs.declared.flagged.Flagged.{Flagged}
 abbrev pub flagged_by : (flag number : ℕ) → Flagged
 flagged_by flag number = record { flag = flag; number = number }
 
-abbrev pub is_said : (given : Bool) (number : ℕ) → Given → Bool
-is_said given number Absent = not given
-is_said given number (Value n) = given && eqb number n
+abbrev pub is_said : (given : Bool) (number : ℕ) → Option ℕ → Bool
+is_said given number None = not given
+is_said given number (Some n) = given && eqb number n
 
-abbrev pub says : Flagged → Given → Bool
+abbrev pub says : Flagged → Option ℕ → Bool
 says f g = is_said (truth_of f.flag) f.number g
 
-unfoldable pub flagged_back : Flagged → Given → Flagged
-flagged_back f g = choose (says f g) f (flagged_by (truth_bit (is_given g)) (given_number g))
+unfoldable pub flagged_back : Flagged → Option ℕ → Flagged
+flagged_back f g = choose (says f g) f (flagged_by (truth_bit (is_some g)) (unwrap_or g 0))
 
 abbrev pub current_in : CState → Flagged
 current_in c = flagged_by c.currentflag c.current

@@ -7,10 +7,10 @@
 --     was_accepted x, any_accepted v ds  the record was run and answered with 0 or 1; so one of some records
 -- Statements: RunSaid, what is handed back says the run; RunBack, a run that has not changed comes back number for number; StoppedAsItCame, so one that had
 -- stopped, with both buffers; StateAsItCame, so the state, with both buffers, where no record was accepted.
-use Rattle.std.specs.Prelude.{◌≡◌, Bool, true, false, not, ◌&&◌, ◌||◌, List, [], ◌∷◌, ℕ, ltb}
-use Rattle.given.specs.Given.{is_given, given_if}
+use Rattle.std.specs.Prelude.{◌≡◌, Bool, true, false, not, ◌&&◌, ◌||◌, List, [], ◌∷◌, ℕ, ltb, is_some}
+use Rattle.std.specs.Bool.{then_some}
 use Rattle.regs.specs.Convert.{truth_of}
-use Rattle.request.specs.declared.Decoded.{Decoded}
+use Rattle.request.specs.Requests.{Decoded}
 use Rattle.request.specs.Entries.{entries_in}
 use Rattle.replay.specs.declared.run.Run.{Run}
 use Rattle.replay.specs.Running.{Running, run_with, run_of, running_of, ShownRan, ran, replayed}
@@ -20,7 +20,7 @@ use Rattle.face_replay.specs.declared.traces.CRun.{CRun}
 use Rattle.face_replay.specs.Flags.{flagged_by, flagged_back, state_back}
 
 abbrev pub run_from : CRun → Run
-run_from c = run_with (state_from c.state) c.number c.fuel c.spent (given_if (truth_of c.stopflag) c.cost)
+run_from c = run_with (state_from c.state) c.number c.fuel c.spent (then_some (truth_of c.stopflag) c.cost)
 
 abbrev pub stop_in : CRun → Flagged
 stop_in c = flagged_by c.stopflag c.cost
@@ -63,7 +63,7 @@ StoppedAsItCame =
 -- ---- where no record was accepted
 
 abbrev pub was_accepted : ShownRan → Bool
-was_accepted x = not (is_given x.run.stop) && ltb x.answer 2
+was_accepted x = not (is_some x.run.stop) && ltb x.answer 2
 
 unfoldable pub any_accepted : Running → List Decoded → Bool
 any_accepted v [] = false

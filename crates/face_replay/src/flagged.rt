@@ -3,8 +3,7 @@ ghost use Rattle.std.specs.Prelude.{◌≡◌};
 ghost use Rattle.face_replay.specs.Flags.{says, flagged_back, state_back};
 
 use face::CState;
-use given::{Given, given_number, is_given};
-use regs::{from_bool, to_bool};
+use regs::InRegister;
 use rules::State;
 
 // A flag and the number beside it.
@@ -40,23 +39,25 @@ pub(crate) fn state_back(came: CState, s: State) -> CState
 }
 
 // As they came where they say it, else 0 or 1, with 0 beside 0.
-pub(crate) fn flagged_back(came: Flagged, g: Given) -> Flagged
+#[tactic(auto, unfolding(crate::specs::Flags::flagged_back, choice::specs::Choose::choose))]
+pub(crate) fn flagged_back(came: Flagged, g: Option<u64>) -> Flagged
     ensures { result ≡ flagged_back came g }
 {
     if is_said(came, g) {
         return came;
     }
     Flagged {
-        flag: from_bool(is_given(g)),
-        number: given_number(g),
+        flag: g.is_some().into_register(),
+        number: g.unwrap_or(0),
     }
 }
 
-fn is_said(f: Flagged, g: Given) -> bool
+// The flag is any number, as it came from C.
+fn is_said(f: Flagged, g: Option<u64>) -> bool
     ensures { result ≡ says f g }
 {
     match g {
-        Given::Absent => !to_bool(f.flag),
-        Given::Value(n) => to_bool(f.flag) & (f.number == n),
+        None => !bool::from_register(f.flag),
+        Some(n) => bool::from_register(f.flag) & (f.number == n),
     }
 }

@@ -3,10 +3,11 @@ ghost use Rattle.std.specs.Prelude.{◌≡◌};
 ghost use Rattle.tape.specs.Tapes.{fed_number, feeding, end_told};
 ghost use Rattle.face_replay.specs.Tapes.{tape_from, flag_back, tape_back, tape_told, fed_told, taping_from, taping_back, feeding_back};
 
-use crate::traces::{CRun, run_back, run_from};
+use crate::traces::{CRun, run_back};
 use record::RECORD_SIZE;
-use regs::{from_bool, to_bool};
-use tape::{Fed, Tape, feed, finish};
+use regs::InRegister;
+use replay::Run;
+use tape::{AfterEnd, Tape, feed, finish};
 
 // A tape in its course.
 #[repr(C)]
@@ -31,12 +32,11 @@ pub fn cattlecleat_feed(t: CTape, words: &mut [u64], cells: &mut [u64], block: &
     ensures { fed_told result words.new cells.new
         ≡ feeding_back t (feeding (taping_from t words.old cells.old) block.now) }
 {
-    let done = feed(tape_from(t), words, cells, block);
-    let answer = done.fed;
-    let after = done.tape;
+    let mut tape = Tape::from(t);
+    let fed = feed(&mut tape, words, cells, block);
     CFed {
-        number: fed_number(answer),
-        tape: tape_back(t, after),
+        number: fed_number(fed),
+        tape: tape_back(t, tape),
     }
 }
 
@@ -45,28 +45,32 @@ pub fn cattlecleat_finish(t: CTape, words: &mut [u64], cells: &mut [u64]) -> CTa
     ensures { tape_told result words.new cells.new
         ≡ taping_back t (end_told (taping_from t words.old cells.old)) }
 {
-    tape_back(t, finish(tape_from(t), words, cells))
+    let mut tape = Tape::from(t);
+    finish(&mut tape, words, cells);
+    tape_back(t, tape)
 }
 
-fn fed_number(f: Fed) -> u64
-    ensures { result ≡ fed_number f }
+fn fed_number(fed: Result<(), AfterEnd>) -> u64
+    ensures { result ≡ fed_number fed }
 {
-    match f {
-        Fed::Done => 0,
-        Fed::Refused => 22,
+    match fed {
+        Ok(()) => 0,
+        Err(AfterEnd) => 22,
     }
 }
 
-fn tape_from(c: CTape) -> Tape
-    ensures { result ≡ tape_from c }
-{
-    let run = c.run;
-    let kept = c.kept;
-    Tape {
-        run: run_from(run),
-        kept,
-        held: c.held,
-        ended: to_bool(c.endflag),
+impl From<CTape> for Tape {
+    ghost from_gives = { λ c t. t ≡ tape_from c };
+
+    fn from(c: CTape) -> Tape {
+        let run = c.run;
+        let kept = c.kept;
+        Tape {
+            run: Run::from(run),
+            kept,
+            held: c.held,
+            ended: bool::from_register(c.endflag),
+        }
     }
 }
 
@@ -85,11 +89,12 @@ fn tape_back(came: CTape, t: Tape) -> CTape
 }
 
 // As it came where it says it, else 0 or 1.
+#[tactic(auto, unfolding(crate::specs::Tapes::flag_back, choice::specs::Choose::choose))]
 fn flag_back(came: u64, said: bool) -> u64
     ensures { result ≡ flag_back came said }
 {
-    if to_bool(came) & said {
+    if bool::from_register(came) & said {
         return came;
     }
-    from_bool(said)
+    said.into_register()
 }

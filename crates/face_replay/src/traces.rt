@@ -4,10 +4,10 @@ ghost use Rattle.replay.specs.Running.{replayed};
 ghost use Rattle.face_replay.specs.Runs.{run_from, run_back, run_told, running_back, running_from};
 
 use crate::flagged::{Flagged, flagged_back, state_back};
-use face::{CState, state_from};
-use given::given_if;
-use regs::to_bool;
+use face::CState;
+use regs::InRegister;
 use replay::{Run, replay};
+use rules::State;
 
 // A replay in its course.
 #[repr(C)]
@@ -26,19 +26,21 @@ pub fn cattlecleat_replay(run: CRun, words: &mut [u64], cells: &mut [u64], trace
     ensures { run_told result words.new cells.new
         ≡ running_back run (replayed (running_from run words.old cells.old) trace.now) }
 {
-    run_back(run, replay(run_from(run), words, cells, trace))
+    run_back(run, replay(Run::from(run), words, cells, trace))
 }
 
-pub(crate) fn run_from(c: CRun) -> Run
-    ensures { result ≡ run_from c }
-{
-    let held = c.state;
-    Run {
-        state: state_from(held),
-        number: c.number,
-        fuel: c.fuel,
-        spent: c.spent,
-        stop: given_if(to_bool(c.stopflag), c.cost),
+impl From<CRun> for Run {
+    ghost from_gives = { λ c r. r ≡ run_from c };
+
+    fn from(c: CRun) -> Run {
+        let held = c.state;
+        Run {
+            state: State::from(held),
+            number: c.number,
+            fuel: c.fuel,
+            spent: c.spent,
+            stop: bool::from_register(c.stopflag).then_some(c.cost),
+        }
     }
 }
 

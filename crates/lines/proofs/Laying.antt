@@ -1,33 +1,18 @@
--- A text that is written piece by piece, and a piece that is written byte by byte. Assumes nothing.
---     lay_turn, lay_done        the loop that writes bytes: what is left to write comes to m
+-- A text that is written piece by piece. Assumes nothing.
 --     laid_then                 a text and then another are both, one after the other
 --     laid_number, laid_word    so are a number and the rest, and a word and the rest
 --     laid_digits               the digits and the byte behind them are a number that is ended
 --     laid_put                  with room for the longest, a text that is laid is put
 use mathlib.Core.Path.{◌≡◌, refl, sym, ap, ◌∙◌}
 use mathlib.Core.List.{List, [], ◌∷◌, ◌++◌, append_assoc}
-use Prim.Native.Nat.{ℕ, suc, ◌+◌, ◌≤◌, ◌<◌}
+use Prim.Native.Nat.{ℕ, ◌+◌, ◌≤◌}
 use native.Mathlib.Omega.{arith}
-use native.Mathlib.Numerals.{add-one}
-use lib.ListN.{length, get_or, set, drop, length-append, drop_of_length-le}
-use lib.Seq.{sets, drop-cons}
+use lib.ListN.{length, set, length-append}
+use lib.Seq.{sets}
 use Rattle.runs.proofs.Lists.{sets_append}
 use Rattle.lines.specs.Text.{decimal_text, ShownText, shown_text, longest_text, text_put}
 use Rattle.lines.specs.Pieces.{ended_number, text_laid}
 use Rattle.lines.proofs.Texts.{text_put_room}
-
--- ---- byte by byte
-
-module _ (l text : List ℕ) (at i : ℕ) (m : List ℕ) where
-  pub lay_turn : i < length text → sets l (at + i) (drop i text) ≡ m → sets (set l (at + i) (get_or text i 0)) (at + (i + 1)) (drop (i + 1) text) ≡ m
-  lay_turn h e =
-      let next : at + (i + 1) ≡ suc (at + i) = omega arith in
-      rw (next, add-one i) (rw (drop-cons text i 0 h) at e)
-
-  pub lay_done : length text ≤ i → sets l (at + i) (drop i text) ≡ m → l ≡ m
-  lay_done h e = rw (drop_of_length-le text h) at e
-
--- ---- piece by piece
 
 pub laid_then : (l m o x y : List ℕ) (at k r : ℕ) → shown_text k m ≡ text_laid l at x → shown_text r o ≡ text_laid m k y → shown_text r o ≡ text_laid l at (x ++ y)
 unfolding text_laid

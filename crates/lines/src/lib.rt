@@ -7,6 +7,7 @@ ghost use Rattle.lines.specs.Text.{line_text, stopped_text, spent_text, shown_te
 ghost use Rattle.lines.specs.Pieces.{number_room, ended_number, text_laid};
 
 // What a line says of a record: its number, the answer, the offset, and the depth and `len` after it.
+// The answer is a number here: the listing prints it.
 #[derive(Clone, Copy)]
 pub struct Line {
     pub number: u64,
@@ -25,10 +26,11 @@ const BLANK: u8 = b' ';
 const NEWLINE: u8 = b'\n';
 
 // Writes a record's line at a place of a buffer and hands back the place behind it. Where fewer than LONGEST_LINE bytes are left, nothing is written.
+// The place stands beside the buffer, as `text_put` says where the text lies. Three texts of other parts, so three functions.
 pub fn write_line(out: &mut [u8], at: usize, line: Line) -> usize
     ensures { shown_text result out.new ≡ text_put out.old at (line_text line) }
 {
-    if bytes_left(out.len(), at) < LONGEST_LINE {
+    if out.len().saturating_sub(at) < LONGEST_LINE {
         return at;
     }
     let second = put_number(out, at, line.number, BLANK);
@@ -42,7 +44,7 @@ pub fn write_line(out: &mut [u8], at: usize, line: Line) -> usize
 pub fn write_stopped(out: &mut [u8], at: usize, number: u64, cost: u64) -> usize
     ensures { shown_text result out.new ≡ text_put out.old at (stopped_text number cost) }
 {
-    if bytes_left(out.len(), at) < LONGEST_LINE {
+    if out.len().saturating_sub(at) < LONGEST_LINE {
         return at;
     }
     let first = put(out, at, b"stopped ");
@@ -54,18 +56,11 @@ pub fn write_stopped(out: &mut [u8], at: usize, number: u64, cost: u64) -> usize
 pub fn write_spent(out: &mut [u8], at: usize, spent: u64) -> usize
     ensures { shown_text result out.new ≡ text_put out.old at (spent_text spent) }
 {
-    if bytes_left(out.len(), at) < LONGEST_LINE {
+    if out.len().saturating_sub(at) < LONGEST_LINE {
         return at;
     }
     let first = put(out, at, b"spent ");
     put_number(out, first, spent, NEWLINE)
-}
-
-// How many bytes there are from a place on, in a buffer of `len`.
-fn bytes_left(len: usize, at: usize) -> usize
-    ensures { result ≡ len - at }
-{
-    if len < at { 0 } else { len - at }
 }
 
 // Writes a number and the byte that ends it, and hands back the place behind them.
@@ -87,11 +82,7 @@ fn put(out: &mut [u8], at: usize, text: &[u8]) -> usize
     ensures value { result ≡ at + length text.now }
     ensures out_after { out.new ≡ sets out.old at text.now }
 {
-    let mut i: usize = 0;
-    while i < text.len() {
-        let byte = text[i];
-        out[at + i] = byte;
-        i += 1;
-    }
-    at + text.len()
+    let behind = at + text.len();
+    out[at..behind].copy_from_slice(text);
+    behind
 }

@@ -1,6 +1,6 @@
 -- What a block and the end are answered with their lines, by what the tape is. Assumes nothing.
 --     held_long, room_found                                   how much is held, and the room, as the code finds them
---     lines_still, lines_refused_lem, lines_narrow, lines_go      a block
+--     lines_still, lines_refused_lem, lines_narrow, lines_go, lines_number      a block
 --     end_still, end_narrow, end_goes                         the end
 use mathlib.Core.Path.{◌≡◌, refl, sym, ap, ◌∙◌}
 use mathlib.Core.Bool.{Bool, true, false, ◌||◌, false≢true}
@@ -10,13 +10,16 @@ use native.Mathlib.Omega.{arith}
 use lib.Dec.{ltb}
 use lib.ListN.{length}
 use lib.Seq.{length-take-le}
+use borrow.Author.Tests.{ne_eqb}
+use Rattle.std.specs.Prelude.{Result, IsErrAnd, Ok, Err}
 use Rattle.choice.specs.Choose.{choose}
-use Rattle.choice.proofs.Bools.{neither}
 use Rattle.record.specs.Form.{record_size}
 use Rattle.request.specs.Entries.{record_count}
 use Rattle.tape.specs.Tapes.{Taping, most_held, held_in, taping_with, has_stopped, is_empty, fed, end_rests, end_told}
 use Rattle.listing.specs.Blocks.{block_room, ListedBlock, block_listed}
-use Rattle.listing.specs.Taped.{lines_fed, lines_told, ShownLines, lines_out, cut_listed, block_lines_room, end_lines_room}
+use Rattle.listing.specs.declared.taped.LinesError.{LinesError}
+use Rattle.listing.specs.declared.taped.LinesError.TheVariants.{AfterEnd}
+use Rattle.listing.specs.Taped.{fed_lines_number, fed_lines_used, lines_fed, lines_told, ShownLines, lines_out, cut_listed, block_lines_room, end_lines_room}
 use Rattle.listing.specs.Taped.{list_feeding, list_telling}
 use Rattle.listing.proofs.Steps.{block_all}
 
@@ -31,38 +34,36 @@ module _ (t : Taping) (block out : List ℕ) where
       → w ≡ ltb (length out) (block_room ((min t.held most_held + length block) / record_size)) → w ≡ ltb (length out) (block_lines_room t block)
   room_found full w p = let long = held_long t full in p ∙ ap (ltb (length out)) (omega arith)
 
-  -- and whether the run has stopped
-  module _ (s : Bool) (told : s ≡ has_stopped t.run) where
-    pub lines_still : (s || is_empty block) ≡ true → lines_out 0 0 t out ≡ list_feeding t block out
-    unfolding list_feeding fed lines_fed choose
-    lines_still h = by (has_stopped t.run) t.ended (is_empty block) refl refl refl (sym (ap (λ b. b || is_empty block) told) ∙ h)
-      where
-        by : (x e m : Bool) → has_stopped t.run ≡ x → t.ended ≡ e → is_empty block ≡ m → (x || m) ≡ true → lines_out 0 0 t out ≡ list_feeding t block out
-        by true e m p q r h = rw p
-        by false true true p q r h = rw (p, q, r)
-        by false false true p q r h = rw (p, q, r)
-        by false e false p q r h = absurd (false≢true h)
+  pub lines_still : (has_stopped t.run || is_empty block) ≡ true → lines_out 0 0 t out ≡ list_feeding t block out
+  unfolding list_feeding fed lines_fed choose
+  lines_still h = by (has_stopped t.run) t.ended (is_empty block) refl refl refl h
+    where
+      by : (x e m : Bool) → has_stopped t.run ≡ x → t.ended ≡ e → is_empty block ≡ m → (x || m) ≡ true → lines_out 0 0 t out ≡ list_feeding t block out
+      by true e m p q r h = rw p
+      by false true true p q r h = rw (p, q, r)
+      by false false true p q r h = rw (p, q, r)
+      by false e false p q r h = absurd (false≢true h)
 
-    module _ (h : (s || is_empty block) ≡ false) where
-      goes : has_stopped t.run ≡ false
-      goes = sym told ∙ (neither s (is_empty block) h).0
+  module _ (goes : has_stopped t.run ≡ false) (some : length block ≡ 0 → ⊥) where
+    pub lines_refused_lem : t.ended ≡ true → lines_out 22 0 t out ≡ list_feeding t block out
+    unfolding list_feeding choose
+    lines_refused_lem e = rw (goes, e, ne_eqb (length block) 0 some)
 
-      some : is_empty block ≡ false
-      some = (neither s (is_empty block) h).1
-
-      pub lines_refused_lem : t.ended ≡ true → lines_out 22 0 t out ≡ list_feeding t block out
+    -- more is to come, and records are run where there is room for their lines
+    module _ (e : t.ended ≡ false) (w : Bool) (p : w ≡ ltb (length out) (block_lines_room t block)) where
+      pub lines_narrow : w ≡ true → lines_out 19 0 t out ≡ list_feeding t block out
       unfolding list_feeding choose
-      lines_refused_lem e = rw (goes, e, some)
+      lines_narrow n = rw (goes, e, ne_eqb (length block) 0 some, sym p ∙ n)
 
-      -- more is to come, and records are run where there is room for their lines
-      module _ (e : t.ended ≡ false) (w : Bool) (p : w ≡ ltb (length out) (block_lines_room t block)) where
-        pub lines_narrow : w ≡ true → lines_out 19 0 t out ≡ list_feeding t block out
-        unfolding list_feeding choose
-        lines_narrow n = rw (goes, e, some, sym p ∙ n)
+      pub lines_go : w ≡ false → (l : ShownLines) → l ≡ cut_listed t.run (held_in t ++ block) out → l ≡ list_feeding t block out
+      unfolding list_feeding fed lines_fed choose
+      lines_go n l q = rw (goes, e, ne_eqb (length block) 0 some, sym p ∙ n) q
 
-        pub lines_go : w ≡ false → (l : ShownLines) → l ≡ cut_listed t.run (held_in t ++ block) out → l ≡ list_feeding t block out
-        unfolding list_feeding fed lines_fed choose
-        lines_go n l q = rw (goes, e, some, sym p ∙ n) q
+-- the error that goes up is 22
+pub lines_number : (r : Result ℕ LinesError) (t : Taping) (out : List ℕ) → IsErrAnd r (λ e. e ≡ AfterEnd)
+    → lines_out (fed_lines_number r) (fed_lines_used r) t out ≡ lines_out 22 0 t out
+lines_number (Ok used) t out e = absurd e
+lines_number (Err why) t out e = ap (λ w. lines_out (fed_lines_number (Err w)) 0 t out) e
 
 -- ---- the end
 module _ (t : Taping) (out : List ℕ) (s : Bool) (told : s ≡ has_stopped t.run) where

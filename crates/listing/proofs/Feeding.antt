@@ -1,6 +1,5 @@
 -- The lines of a block of a tape, as the code finds them. Assumes nothing.
 --     none_text, lines_room              no bytes have no lines; the lines of so many bytes have room where as many of the longest have
---     first_unlisted, first_listed       the record that a block completes, where there is none and where there is one
 --     both_used, both_fits, both_listed_lem  bytes listed behind others
 --     held_listed                        what is held
 --     cut_room, cut_listed_lem               a block, cut where tape says
@@ -10,8 +9,7 @@ use Prim.Native.Nat.{ℕ, zero, suc, ◌+◌, ◌-◌, ◌*◌, ◌/◌, ◌≤�
 use native.Mathlib.Omega.{arith}
 use lib.ListN.{length, take, drop, length-append, length-take, length-drop, drop_of_length-le}
 use lib.Seq.{sets, sets-eq, length-sets, take_all, drop-drop}
-use borrow.Author.Tests.{eq-eqb, ne_eqb, le-ltb}
-use Rattle.choice.proofs.Choices.{chosen_first, chosen_second}
+use borrow.Author.Tests.{le-ltb}
 use Rattle.runs.proofs.Lists.{sets_append}
 use Rattle.lines.specs.Text.{longest_text}
 use Rattle.record.specs.Form.{record_size}
@@ -23,13 +21,13 @@ use Rattle.replay.specs.Running.{Running, running_of, ran, replayed}
 use Rattle.tape.specs.declared.tape.Tape.{Tape}
 use Rattle.tape.specs.declared.cut.Cut.{Cut}
 use Rattle.tape.specs.Tapes.{most_held, held_bytes, taping_of, whole_bytes, whole_in, tape_holds, went_through}
-use Rattle.tape.specs.Cuts.{cut_of}
+use Rattle.tape.specs.Cuts.{first_count, cut_of}
 use Rattle.tape.proofs.Going.{first_run, own_run, cut_runs, cut_went}
 use Rattle.listing.specs.Listing.{lines_by, lines_of, said_of, text_of}
 use Rattle.listing.specs.Blocks.{lines_text, block_room, ListedBlock, block_of, block_with, block_listed}
-use Rattle.listing.specs.Taped.{completed, both_listed, cut_listed, lines_out, lines_done}
+use Rattle.listing.specs.Taped.{both_listed, cut_listed, lines_out, lines_done}
 use Rattle.listing.proofs.Lines.{lines_join}
-use Rattle.listing.proofs.Filling.{text_first, text_short, end_left, block_whole}
+use Rattle.listing.proofs.Filling.{text_first, text_short}
 use Rattle.listing.proofs.Steps.{block_all}
 
 -- ---- how long a text can be
@@ -56,17 +54,6 @@ lines_short v bytes (suc k) at =
 pub lines_room : (v : Running) (bytes : List ℕ) → length (lines_text v (entries_in bytes)) ≤ block_room (record_count (length bytes))
 unfolding entries_left
 lines_room v bytes = let short = lines_short v bytes (record_count (length bytes - 0)) 0 in omega arith
-
--- ---- the record that a block completes
-none_listed : (v : Running) (out : List ℕ) → block_of v 0 out ≡ block_listed v [] out
-none_listed v out = sym (end_left v [] 0 0 out (omega arith)) ∙ block_whole v [] out ∙ block_all v [] out (le-ltb (length out) 0 (omega arith))
-
-module _ (v : Running) (first out : List ℕ) (from : ℕ) where
-  pub first_unlisted : from ≡ 0 → block_of v 0 out ≡ block_listed v (completed first from) out
-  first_unlisted e = none_listed v out ∙ ap (λ l. block_listed v l out) (chosen_first _ _ _ _ _ (eq-eqb from 0 e) refl)
-
-  pub first_listed : (b : ListedBlock) → (from ≡ 0 → ⊥) → b ≡ block_listed v first out → b ≡ block_listed v (completed first from) out
-  first_listed b e p = p ∙ ap (λ l. block_listed v l out) (chosen_second _ _ _ _ _ (ne_eqb from 0 e) refl)
 
 -- ---- bytes behind others
 -- a part up to the end that is lent, written at its start, and comes back
@@ -150,11 +137,11 @@ pub held_listed : (v : Running) (kept : List ℕ) (held r : ℕ) (out : List ℕ
 held_listed v kept held r out b p e = p ∙ ap (λ k. block_listed v (take k kept) out) e
 
 -- ---- a block, cut
-module _ (kept : List ℕ) (held : ℕ) (block : List ℕ) (c : Cut) (e : c ≡ cut_of (held_bytes kept held) block) where
+module _ (kept : List ℕ) (held : ℕ) (block : List ℕ) (c : Cut) (e : c ≡ cut_of (held_bytes kept held) block) (n : ℕ) (counted : n ≡ first_count c) where
   abbrev bytes : List ℕ
   bytes = held_bytes kept held ++ block
 
-  pub cut_room : record_count (length (first_run c)) + record_count (length (own_run c block)) ≡ (length (held_bytes kept held) + length block) / record_size
+  pub cut_room : record_count (length (take n c.first)) + record_count (length (own_run c block)) ≡ (length (held_bytes kept held) + length block) / record_size
   unfolding whole_in
   cut_room =
       let runs = cut_runs kept held block c e in
@@ -163,15 +150,16 @@ module _ (kept : List ℕ) (held : ℕ) (block : List ℕ) (c : Cut) (e : c ≡ 
       let all : length (whole_in bytes) ≡ min (whole_bytes (length bytes)) (length bytes) = length-take (whole_bytes (length bytes)) bytes in
       let long : length bytes ≡ length (held_bytes kept held) + length block = length-append (held_bytes kept held) block in
       let whole = runs.whole in
-      omega arith
+      ap (λ k. record_count (length (take k c.first)) + record_count (length (own_run c block))) counted ∙ omega arith
 
   pub cut_listed_lem : (v : Running) (r : Run) (used : ℕ) (words cells out' out : List ℕ) (t : Tape)
-      → block_of (running_of r words cells) used out' ≡ both_listed v (first_run c) (own_run c block) out → t ≡ tape_holds r c.rest c.left
+      → block_of (running_of r words cells) used out' ≡ both_listed v (take n c.first) (own_run c block) out → t ≡ tape_holds r c.rest c.left
       → lines_out 0 used (taping_of t words cells) out' ≡ cut_listed v bytes out
   cut_listed_lem v r used words cells out' out t p h =
       let first = first_run c in
       let own = own_run c block in
       let runs = cut_runs kept held block c e in
-      let went = cut_went kept held block c e v (replayed v first) r words cells t refl (ap (λ (l : ListedBlock). l.run) p) h in
-      (λ i. lines_out 0 (p i).used (went i) (p i).out)
+      let both = p ∙ ap (λ k. both_listed v (take k c.first) own out) counted in
+      let went = cut_went kept held block c e v (replayed v first) r words cells t refl (ap (λ (l : ListedBlock). l.run) both) h in
+      (λ i. lines_out 0 (both i).used (went i) (both i).out)
       ∙ ap (λ text. lines_done (went_through v bytes) text out) (sym (lines_join v first own runs.whole) ∙ ap (λ l. lines_text v (entries_in l)) runs.all)

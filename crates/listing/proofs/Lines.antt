@@ -3,13 +3,13 @@
 --     lines_both                 the lines of records, and of more behind them
 --     text_both, said_both       of lines and of more behind them, what is said and its text
 --     lines_join, listing_in_blocks
+use Rattle.std.specs.Prelude.{is_some}
 use mathlib.Core.Path.{◌≡◌, refl, sym, ap, ◌∙◌}
 use mathlib.Core.Bool.{true}
 use mathlib.Core.List.{List, [], ◌∷◌, ◌++◌, append_assoc}
 use Rattle.choice.proofs.Choices.{chosen_first}
-use Rattle.given.specs.Given.{is_given}
 use Rattle.lines.specs.declared.Line.{Line}
-use Rattle.request.specs.declared.Decoded.{Decoded}
+use Rattle.request.specs.Requests.{Decoded}
 use Rattle.request.specs.Entries.{entries_in}
 use Rattle.request.proofs.Entries.{entries_join}
 use Rattle.replay.specs.Running.{Running, ShownRan, ran, ran_all, replayed}
@@ -19,10 +19,10 @@ use Rattle.listing.specs.Listing.{lines_by, lines_of, Said, of_record, said_of, 
 use Rattle.listing.specs.Blocks.{lines_text, LinesJoin, ListingInBlocks}
 
 -- ---- after a stop
-module _ (v : Running) (stopped : is_given v.stop ≡ true) where
+module _ (v : Running) (stopped : is_some v.stop ≡ true) where
   line_stopped : (d : Decoded) → lines_by v d ≡ []
   unfolding lines_by
-  line_stopped d = sym (chosen_first _ _ _ _ _ (ap (λ (t : ShownRan). is_given t.run.stop) (sym (ran_ended v d stopped)) ∙ stopped) refl)
+  line_stopped d = sym (chosen_first _ _ _ _ _ (ap (λ (t : ShownRan). is_some t.run.stop) (sym (ran_ended v d stopped)) ∙ stopped) refl)
 
   pub lines_stopped : (ds : List Decoded) → lines_of v ds ≡ []
   unfolding lines_of

@@ -4,17 +4,18 @@ use mathlib.Core.Bool.{cond}
 use mathlib.Core.List.{List}
 use Prim.Native.Nat.{ℕ}
 use lib.Dec.{eqb}
-use Rattle.choice.specs.Once.{OnceSeen, beside}
+use Rattle.std.specs.Prelude.{Result, Ok, Err}
+use Rattle.choice.specs.Once.{Once, OnceSeen, beside}
 use Rattle.lines.specs.Text.{ShownText}
 use Rattle.replay.specs.Running.{run_of}
 use Rattle.tape.specs.declared.tape.Tape.{Tape}
 use Rattle.tape.specs.Tapes.{Taping}
 use Rattle.listing.specs.declared.block.Listed.{Listed}
-use Rattle.listing.specs.declared.taped.FedLines.{FedLines}
-use Rattle.listing.specs.declared.taped.FedLines.TheVariants.{Done, Refused, NoRoom}
-use Rattle.listing.specs.declared.taped.ListedFeeding.{ListedFeeding}
+use Rattle.listing.specs.declared.taped.LinesError.{LinesError}
+use Rattle.listing.specs.declared.taped.LinesError.TheVariants.{AfterEnd, NoRoom}
 use Rattle.listing.specs.Blocks.{ListedBlock}
 use Rattle.listing.specs.Taped.{ShownLines, fed_lines_number, fed_lines_used, shown_lines}
+use Rattle.listing.proofs.taped.LinesErrorFromAfterEnd.from.Reads as lines-refused
 use Rattle.listing.proofs.block.list_block.Reads as list-block
 use Rattle.listing.proofs.end.list_end.Reads as list-end
 use Rattle.listing.proofs.taped.list_feed.Reads as list-feed
@@ -32,31 +33,37 @@ pub list_end_settled : OnceSeen list-end.Post (λ κ r e. beside r e.1.0.now)
 list_end_settled κ a r r' e e' p q = ap (λ (t : ShownText). beside t.next t.bytes) (p ∙ sym q)
 
 -- what is shown of a block of a tape, or of its end, tells the answer, the tape and all three buffers
-abbrev fed_lines_from : (number used : ℕ) → FedLines
-fed_lines_from number used = cond (eqb number 0) (Done used) (cond (eqb number 22) Refused NoRoom)
+abbrev fed_lines_from : (number used : ℕ) → Result ℕ LinesError
+fed_lines_from number used = cond (eqb number 0) (Ok used) (Err (cond (eqb number 22) AfterEnd NoRoom))
 
-fed_lines_back : (f : FedLines) → fed_lines_from (fed_lines_number f) (fed_lines_used f) ≡ f
-fed_lines_back (Done used) = refl
-fed_lines_back Refused = refl
-fed_lines_back NoRoom = refl
+fed_lines_back : (f : Result ℕ LinesError) → fed_lines_from (fed_lines_number f) (fed_lines_used f) ≡ f
+fed_lines_back (Ok used) = refl
+fed_lines_back (Err AfterEnd) = refl
+fed_lines_back (Err NoRoom) = refl
 
 abbrev tape_seen : Taping → Tape
 tape_seen t = record { run = run_of t.run; kept = t.kept; held = t.held; ended = t.ended }
 
-abbrev lines_seen : ShownLines → ListedFeeding × (List ℕ × (List ℕ × List ℕ))
+abbrev lines_seen : ShownLines → Result ℕ LinesError × (Tape × (List ℕ × (List ℕ × List ℕ)))
 lines_seen s =
-    beside record { fed = fed_lines_from s.number s.used; tape = tape_seen s.tape }
-    (beside s.tape.run.world.words (beside s.tape.run.world.cells s.out))
+    beside (fed_lines_from s.number s.used)
+    (beside (tape_seen s.tape) (beside s.tape.run.world.words (beside s.tape.run.world.cells s.out)))
 
-lines_back : (f : ListedFeeding) (words cells out : List ℕ) → lines_seen (shown_lines f words cells out) ≡ beside f (beside words (beside cells out))
-lines_back f words cells out = ap (λ x. beside record { fed = x; tape = f.tape } (beside words (beside cells out))) (fed_lines_back f.fed)
+lines_back : (r : Result ℕ LinesError) (t : Tape) (words cells out : List ℕ)
+    → lines_seen (shown_lines r t words cells out) ≡ beside r (beside t (beside words (beside cells out)))
+lines_back r t words cells out = ap (λ x. beside x (beside t (beside words (beside cells out)))) (fed_lines_back r)
 
-lines_once : (f g : ListedFeeding) (words words' cells cells' out out' : List ℕ) → shown_lines f words cells out ≡ shown_lines g words' cells' out'
-    → beside f (beside words (beside cells out)) ≡ beside g (beside words' (beside cells' out'))
-lines_once f g words words' cells cells' out out' e = sym (lines_back f words cells out) ∙ ap lines_seen e ∙ lines_back g words' cells' out'
+lines_once : (r r' : Result ℕ LinesError) (t t' : Tape) (words words' cells cells' out out' : List ℕ)
+    → shown_lines r t words cells out ≡ shown_lines r' t' words' cells' out'
+    → beside r (beside t (beside words (beside cells out))) ≡ beside r' (beside t' (beside words' (beside cells' out')))
+lines_once r r' t t' words words' cells cells' out out' e =
+    sym (lines_back r t words cells out) ∙ ap lines_seen e ∙ lines_back r' t' words' cells' out'
 
-pub list_feed_settled : OnceSeen list-feed.Post (λ κ r e. beside r (beside e.1.0.now (beside e.1.1.0.now e.1.1.1.1.0.now)))
-list_feed_settled κ a r r' e e' p q = lines_once r r' _ _ _ _ _ _ (p ∙ sym q)
+pub list_feed_settled : OnceSeen list-feed.Post (λ κ r e. beside r (beside e.0.now (beside e.1.0.now (beside e.1.1.0.now e.1.1.1.1.0.now))))
+list_feed_settled κ a r r' e e' p q = lines_once r r' _ _ _ _ _ _ _ _ (p ∙ sym q)
 
-pub list_finish_settled : OnceSeen list-finish.Post (λ κ r e. beside r (beside e.1.0.now (beside e.1.1.0.now e.1.1.1.0.now)))
-list_finish_settled κ a r r' e e' p q = lines_once r r' _ _ _ _ _ _ (p ∙ sym q)
+pub list_finish_settled : OnceSeen list-finish.Post (λ κ r e. beside r (beside e.0.now (beside e.1.0.now (beside e.1.1.0.now e.1.1.1.0.now))))
+list_finish_settled κ a r r' e e' p q = lines_once r r' _ _ _ _ _ _ _ _ (p ∙ sym q)
+
+pub lines_error_from_after_end_from_settled : Once lines-refused.Post
+lines_error_from_after_end_from_settled κ a r r' e e' p q = p ∙ sym q

@@ -1,7 +1,8 @@
 -- One record with its line, and the lines at the end, by what the functions below promise. Assumes nothing.
---     step_stopped, step_listed_lem      a record, where the run has stopped and where it has not
+--     record_stopped, record_listed_lem      a record, where the run has stopped and where it has not
 --     block_none, block_all          a block, where there is no room for its lines and where there is
 --     end_none, end_listed_lem           the end, likewise
+use Rattle.std.specs.Prelude.{Option, None, Some, is_some}
 use mathlib.Core.Path.{◌≡◌, refl, sym, ap, ◌∙◌}
 use mathlib.Core.Bool.{true, false}
 use mathlib.Core.List.{List, [], ◌++◌, append-nil}
@@ -13,9 +14,6 @@ use lib.Seq.{sets, length-sets}
 use borrow.Author.Tests.{lt-ltb, le-ltb}
 use Rattle.choice.specs.Choose.{choose}
 use Rattle.choice.proofs.Choices.{chosen_first, chosen_second}
-use Rattle.given.specs.declared.Given.{Given}
-use Rattle.given.specs.declared.Given.TheVariants.{Absent, Value}
-use Rattle.given.specs.Given.{is_given}
 use Rattle.runs.proofs.Lists.{sets_append}
 use Rattle.lines.specs.Text.{line_text, stopped_text, spent_text, ShownText, shown_text, text_put}
 use Rattle.lines.proofs.Texts.{stopped_fits, text_put_room}
@@ -24,31 +22,30 @@ use Rattle.replay.specs.declared.trace.Turn.{Turn}
 use Rattle.replay.specs.Running.{Running, running_of, shown_ran, replayed}
 use Rattle.replay.specs.Turns.{ShownTurn, shown_turn, turn_at}
 use Rattle.listing.specs.Listing.{line_of, said_at_stop, text_of}
-use Rattle.listing.specs.Blocks.{lines_text, block_room, block_of, block_with, block_listed, step_of, step_listed, stop_listed, end_listed}
+use Rattle.listing.specs.Blocks.{lines_text, block_room, block_of, block_with, block_listed, listed_at, record_listed, stop_listed, end_listed}
 
 -- ---- a record
 module _ (v : Running) (bytes : List ℕ) (at : ℕ) (out : List ℕ) (used : ℕ) (x : Turn) (words cells : List ℕ)
     (e : shown_turn x words cells ≡ turn_at v bytes at)
   where
-    step_told : step_of (running_of x.ran.run words cells) x.next
-        (choose (is_given x.ran.run.stop) (shown_text used out) (text_put out used (line_text (line_of v.number (shown_ran x.ran words cells)))))
-        ≡ step_listed v bytes at out used
-    unfolding step_listed
-    step_told =
+    record_told : listed_at (running_of x.ran.run words cells)
+        (choose (is_some x.ran.run.stop) (shown_text used out) (text_put out used (line_text (line_of v.number (shown_ran x.ran words cells)))))
+        ≡ record_listed v bytes at out used
+    unfolding record_listed
+    record_told =
         ap
         (λ (t : ShownTurn).
-        step_of t.turned.run t.next
-        (choose (is_given t.turned.run.stop) (shown_text used out) (text_put out used (line_text (line_of v.number t.turned)))))
+        listed_at t.turned.run
+        (choose (is_some t.turned.run.stop) (shown_text used out) (text_put out used (line_text (line_of v.number t.turned)))))
         e
 
-    pub step_stopped : is_given x.ran.run.stop ≡ true
-        → step_of (running_of x.ran.run words cells) x.next (shown_text used out) ≡ step_listed v bytes at out used
-    step_stopped s = ap (step_of (running_of x.ran.run words cells) x.next) (chosen_first _ _ _ _ _ s refl) ∙ step_told
+    pub record_stopped : is_some x.ran.run.stop ≡ true → block_of (running_of x.ran.run words cells) used out ≡ record_listed v bytes at out used
+    record_stopped s = ap (listed_at (running_of x.ran.run words cells)) (chosen_first _ _ _ _ _ s refl) ∙ record_told
 
-    pub step_listed_lem : is_given x.ran.run.stop ≡ false → (text : ShownText)
+    pub record_listed_lem : is_some x.ran.run.stop ≡ false → (text : ShownText)
         → text ≡ text_put out used (line_text (line_of v.number (shown_ran x.ran words cells)))
-        → step_of (running_of x.ran.run words cells) x.next text ≡ step_listed v bytes at out used
-    step_listed_lem s text p = ap (step_of (running_of x.ran.run words cells) x.next) (chosen_second _ _ _ _ _ s p) ∙ step_told
+        → listed_at (running_of x.ran.run words cells) text ≡ record_listed v bytes at out used
+    record_listed_lem s text p = ap (listed_at (running_of x.ran.run words cells)) (chosen_second _ _ _ _ _ s p) ∙ record_told
 
 -- ---- a block
 module _ (v : Running) (bytes out : List ℕ) where
@@ -72,16 +69,16 @@ module _ (out : List ℕ) (room : block_room 2 ≤ length out) where
       let place : 0 + length text ≡ length text = omega arith in
       text_put_room out 0 text (omega arith) ∙ (λ i. shown_text (place i) (sets out 0 text))
 
-  pub end_listed_lem : (number : ℕ) (stop : Given) (spent : ℕ) (m : List ℕ) (k : ℕ) (s : ShownText) → shown_text k m ≡ stop_listed number stop out
+  pub end_listed_lem : (number : ℕ) (stop : Option ℕ) (spent : ℕ) (m : List ℕ) (k : ℕ) (s : ShownText) → shown_text k m ≡ stop_listed number stop out
       → s ≡ text_put m k (spent_text spent) → s ≡ end_listed (text_of (said_at_stop number stop spent)) out
   unfolding text_of
-  end_listed_lem number Absent spent m k s first second =
+  end_listed_lem number None spent m k s first second =
       second
       ∙ ap (λ (t : ShownText). text_put t.bytes t.next (spent_text spent)) first
       ∙ put_first (spent_text spent)
       ∙ ap (λ text. shown_text (length text) (sets out 0 text)) (sym (append-nil (spent_text spent)))
       ∙ end_laid (spent_text spent ++ [])
-  end_listed_lem number (Value cost) spent m k s first second =
+  end_listed_lem number (Some cost) spent m k s first second =
       let stopped = stopped_text number cost in
       let short = stopped_fits number cost in
       let same = length-sets out 0 stopped in

@@ -2,6 +2,7 @@
 --     FedVerdict, fed_verdict      22, 19 or 0, each with its cause and what is then there; EndVerdict, end_verdict the same of the end
 --     behind_written               so do the lines behind those of the records
 --     feed_texts, end_texts        done, the text stands at the start of the buffer, and the tape is the one without a listing
+use Rattle.std.specs.Prelude.{Option, None, Some}
 use mathlib.Core.Path.{◌≡◌, refl, sym, ap, ◌∙◌}
 use mathlib.Core.Bool.{Bool, true, false, not, ◌&&◌, ◌||◌, true≢false, false≢true}
 use mathlib.Core.List.{List, [], ◌++◌}
@@ -14,8 +15,6 @@ use lib.Seq.{length-take-le}
 use borrow.Author.Tests.{ltb-true, ltb-false, le-ltb, not-true}
 use Rattle.choice.specs.Choose.{choose}
 use Rattle.choice.proofs.Choices.{chosen_where, chosen_second}
-use Rattle.given.specs.declared.Given.{Given}
-use Rattle.given.specs.declared.Given.TheVariants.{Absent, Value}
 use Rattle.lines.specs.Text.{stopped_text, spent_text, ShownText}
 use Rattle.lines.proofs.Texts.{stopped_fits, spent_fits}
 use Rattle.runs.proofs.Lists.{sets_there}
@@ -153,20 +152,20 @@ module _ (t : Taping) (out : List ℕ) where
   end_19 (lines_at_end room) = (λ n. absurd (omega arith), λ h. let enough = room h.0 in let short = h.1 in absurd (omega arith))
 
 -- ---- the lines behind those of the records
-behind_short : (number : ℕ) (stop : Given) (spent : ℕ) → length (text_of (said_at_stop number stop spent)) ≤ block_room 2
+behind_short : (number : ℕ) (stop : Option ℕ) (spent : ℕ) → length (text_of (said_at_stop number stop spent)) ≤ block_room 2
 unfolding text_of
-behind_short number Absent spent =
+behind_short number None spent =
     let all = length-append (spent_text spent) [] in
     let short = spent_fits spent in
     omega arith
-behind_short number (Value cost) spent =
+behind_short number (Some cost) spent =
     let all = length-append (stopped_text number cost) (spent_text spent ++ []) in
     let rest = length-append (spent_text spent) [] in
     let first = stopped_fits number cost in
     let short = spent_fits spent in
     omega arith
 
-pub behind_written : (number : ℕ) (stop : Given) (spent : ℕ) (out : List ℕ) (s : ShownText) → block_room 2 ≤ length out
+pub behind_written : (number : ℕ) (stop : Option ℕ) (spent : ℕ) (out : List ℕ) (s : ShownText) → block_room 2 ≤ length out
     → s ≡ end_listed (text_of (said_at_stop number stop spent)) out → take s.next s.bytes ≡ text_of (said_at_stop number stop spent)
 unfolding end_listed
 behind_written number stop spent out s room e =

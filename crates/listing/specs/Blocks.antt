@@ -6,19 +6,15 @@
 --     end_listed text out        the text of the lines behind those of the records, likewise
 -- Two statements, LinesJoin and ListingInBlocks: the lines of a trace of whole records with another behind it are the lines of the two, one after the
 -- other; so the text of a listing is that of its blocks, and of its end.
-use Rattle.std.specs.Prelude.{◌≡◌, List, ◌++◌, ℕ, ◌*◌, ltb, length}
+use Rattle.std.specs.Prelude.{◌≡◌, List, ◌++◌, ℕ, ◌*◌, ltb, length, Option, None, Some, is_some}
 use Rattle.std.proofs.lemmas.List.Edits.{sets}
 use Rattle.choice.specs.Choose.{choose}
-use Rattle.given.specs.declared.Given.{Given}
-use Rattle.given.specs.declared.Given.TheVariants.{Absent, Value}
-use Rattle.given.specs.Given.{is_given}
 use Rattle.lines.specs.Text.{longest_text, line_text, stopped_text, ShownText, shown_text, text_put}
-use Rattle.request.specs.declared.Decoded.{Decoded}
+use Rattle.request.specs.Requests.{Decoded}
 use Rattle.request.specs.Entries.{record_count, entries_in, WholeRecords}
 use Rattle.replay.specs.Running.{Running, running_of, replayed}
 use Rattle.replay.specs.Turns.{turn_at}
 use Rattle.listing.specs.declared.block.Listed.{Listed}
-use Rattle.listing.specs.declared.block.Step.{Step}
 use Rattle.listing.specs.Listing.{line_of, lines_of, said_of, listing_of, text_of}
 
 unfoldable pub lines_text : Running → List Decoded → List ℕ
@@ -47,29 +43,20 @@ block_listed v bytes out =
     choose (ltb (length out) (block_room (record_count (length bytes)))) (block_of v 0 out)
     (block_with (replayed v bytes) (lines_text v (entries_in bytes)) out)
 
--- one record at a place of the bytes, with its line at a place of the buffer
-pub record ShownStep : Type 0 where
-  pub run : Running
-  pub next : ℕ
-  pub text : ShownText
+-- the record at a place, with its line at a place of the buffer
+abbrev pub listed_at : Running → ShownText → ListedBlock
+listed_at v text = block_of v text.next text.bytes
 
-abbrev pub step_of : Running → (next : ℕ) → ShownText → ShownStep
-step_of v next text = record { run = v; next = next; text = text }
-
-abbrev pub shown_step : Step → (words cells out : List ℕ) → ShownStep
-shown_step s words cells out = step_of (running_of s.run words cells) s.next (shown_text s.used out)
-
-unfoldable pub step_listed : Running → List ℕ → (at : ℕ) → (out : List ℕ) (used : ℕ) → ShownStep
-step_listed v bytes at out used =
-    let t = turn_at v bytes at in
-    step_of t.turned.run t.next
-    (choose (is_given t.turned.run.stop) (shown_text used out) (text_put out used (line_text (line_of v.number t.turned))))
+unfoldable pub record_listed : Running → (bytes : List ℕ) (at : ℕ) → (out : List ℕ) (used : ℕ) → ListedBlock
+record_listed v bytes at out used =
+    let t = (turn_at v bytes at).turned in
+    listed_at t.run (choose (is_some t.run.stop) (shown_text used out) (text_put out used (line_text (line_of v.number t))))
 
 -- ---- the end
 
-abbrev pub stop_listed : (number : ℕ) → Given → (out : List ℕ) → ShownText
-stop_listed number Absent out = shown_text 0 out
-stop_listed number (Value cost) out = text_put out 0 (stopped_text number cost)
+abbrev pub stop_listed : (number : ℕ) → Option ℕ → (out : List ℕ) → ShownText
+stop_listed number None out = shown_text 0 out
+stop_listed number (Some cost) out = text_put out 0 (stopped_text number cost)
 
 -- a text at the start of a buffer that has room for two lines
 unfoldable pub end_listed : (text out : List ℕ) → ShownText

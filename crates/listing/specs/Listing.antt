@@ -6,15 +6,12 @@
 --     listing_of v ds               the whole listing, of a run and the records to come
 --     text_of ss                    lines as text
 --     opened_run, listing_text       a run on a stack just opened, and the text of the listing of a trace, for an opening and a fuel
-use Rattle.std.specs.Prelude.{List, [], ◌∷◌, ◌++◌, ℕ, length}
+use Rattle.std.specs.Prelude.{List, [], ◌∷◌, ◌++◌, ℕ, length, Option, None, Some, is_some}
 use Rattle.choice.specs.Choose.{choose}
-use Rattle.given.specs.declared.Given.{Given}
-use Rattle.given.specs.declared.Given.TheVariants.{Absent, Value}
-use Rattle.given.specs.Given.{is_given}
 use Rattle.lines.specs.declared.Line.{Line}
 use Rattle.lines.specs.Text.{line_text, stopped_text, spent_text}
 use Rattle.rules.specs.Open.{stack_opened}
-use Rattle.request.specs.declared.Decoded.{Decoded}
+use Rattle.request.specs.Requests.{Decoded}
 use Rattle.request.specs.Entries.{entries_in}
 use Rattle.replay.specs.Running.{Running, ShownRan, started_run, running_of, ran, ran_all}
 
@@ -30,7 +27,7 @@ line_of number t = record {
 }
 
 unfoldable pub lines_by : Running → Decoded → List Line
-lines_by v d = choose (is_given (ran v d).run.stop) [] (line_of v.number (ran v d) ∷ [])
+lines_by v d = choose (is_some (ran v d).run.stop) [] (line_of v.number (ran v d) ∷ [])
 
 unfoldable pub lines_of : Running → List Decoded → List Line
 lines_of v [] = []
@@ -47,11 +44,11 @@ abbrev pub said_of : List Line → List Said
 said_of [] = []
 said_of (l ∷ ls) = of_record l ∷ said_of ls
 
-abbrev pub said_of_stop : (number : ℕ) → Given → List Said
-said_of_stop number Absent = []
-said_of_stop number (Value cost) = of_stop number cost ∷ []
+abbrev pub said_of_stop : (number : ℕ) → Option ℕ → List Said
+said_of_stop number None = []
+said_of_stop number (Some cost) = of_stop number cost ∷ []
 
-abbrev pub said_at_stop : (number : ℕ) → Given → (spent : ℕ) → List Said
+abbrev pub said_at_stop : (number : ℕ) → Option ℕ → (spent : ℕ) → List Said
 said_at_stop number stop spent = said_of_stop number stop ++ of_spent spent ∷ []
 
 abbrev pub said_at_end : Running → List Said

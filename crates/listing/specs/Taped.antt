@@ -8,18 +8,18 @@
 --     list_end_tests, list_telling           the same of the end, which gives no 22
 -- ListingAnyCuts: whatever the cuts, the texts of the blocks and of the end, with the lines behind those of the records, are the listing of the whole
 -- trace.
-use Rattle.std.specs.Prelude.{◌≡◌, not, ◌&&◌, List, [], ◌∷◌, ◌++◌, ℕ, ◌+◌, ◌/◌, eqb, ltb, length}
+use Rattle.std.specs.Prelude.{◌≡◌, not, ◌&&◌, List, [], ◌∷◌, ◌++◌, ℕ, ◌+◌, ◌/◌, ltb, length, Result, Ok, Err}
 use Rattle.std.proofs.lemmas.List.Edits.{sets}
 use Rattle.choice.specs.Choose.{choose}
 use Rattle.choice.specs.Tests.{Test, ◌gives◌, settle}
 use Rattle.record.specs.Form.{record_size}
 use Rattle.request.specs.Entries.{record_count, entries_in}
 use Rattle.replay.specs.Running.{Running, replayed}
+use Rattle.tape.specs.declared.tape.Tape.{Tape}
 use Rattle.tape.specs.Tapes.{Taping, taping_of, held_in, begun, whole_in, block_rests, end_rests, went_through, feed_tests, fed, end_told}
 use Rattle.tape.specs.AnyCuts.{fed_all, joined}
-use Rattle.listing.specs.declared.taped.FedLines.{FedLines}
-use Rattle.listing.specs.declared.taped.FedLines.TheVariants.{Done, Refused, NoRoom}
-use Rattle.listing.specs.declared.taped.ListedFeeding.{ListedFeeding}
+use Rattle.listing.specs.declared.taped.LinesError.{LinesError}
+use Rattle.listing.specs.declared.taped.LinesError.TheVariants.{AfterEnd, NoRoom}
 use Rattle.listing.specs.Listing.{said_at_end, listing_of, text_of}
 use Rattle.listing.specs.Blocks.{lines_text, block_room, ListedBlock, block_with}
 
@@ -53,18 +53,21 @@ lines_refused t out number = lines_out number 0 t out
 abbrev pub lines_done : Taping → (text out : List ℕ) → ShownLines
 lines_done t text out = lines_out 0 (length text) t (sets out 0 text)
 
-abbrev pub fed_lines_number : FedLines → ℕ
-fed_lines_number (Done used) = 0
-fed_lines_number Refused = 22
-fed_lines_number NoRoom = 19
+abbrev pub fed_lines_number : Result ℕ LinesError → ℕ
+fed_lines_number (Ok used) = 0
+fed_lines_number (Err AfterEnd) = 22
+fed_lines_number (Err NoRoom) = 19
 
-abbrev pub fed_lines_used : FedLines → ℕ
-fed_lines_used (Done used) = used
-fed_lines_used Refused = 0
-fed_lines_used NoRoom = 0
+abbrev pub fed_lines_used : Result ℕ LinesError → ℕ
+fed_lines_used (Ok used) = used
+fed_lines_used (Err why) = 0
 
-abbrev pub shown_lines : ListedFeeding → (words cells out : List ℕ) → ShownLines
-shown_lines f words cells out = lines_out (fed_lines_number f.fed) (fed_lines_used f.fed) (taping_of f.tape words cells) out
+-- the error that a refusal of `feed` goes up as
+abbrev pub refused_as_fed : LinesError
+refused_as_fed = AfterEnd
+
+abbrev pub shown_lines : Result ℕ LinesError → Tape → (words cells out : List ℕ) → ShownLines
+shown_lines r t words cells out = lines_out (fed_lines_number r) (fed_lines_used r) (taping_of t words cells) out
 
 -- ---- a block
 
@@ -93,10 +96,7 @@ unfoldable pub list_telling : Taping → (out : List ℕ) → ShownLines
 unfolding list_end_tests
 list_telling t out = settle (list_end_tests t out) (lines_refused t out) (lines_done (end_told t) (lines_told t) out)
 
--- ---- how the code goes: the record that a block completes, and bytes behind others
-
-abbrev pub completed : (first : List ℕ) (from : ℕ) → List ℕ
-completed first from = choose (eqb from 0) [] first
+-- ---- how the code goes: bytes behind others, and a block that is cut
 
 abbrev pub both_listed : Running → (a b out : List ℕ) → ListedBlock
 both_listed v a b out = block_with (replayed (replayed v a) b) (lines_text v (entries_in a) ++ lines_text (replayed v a) (entries_in b)) out

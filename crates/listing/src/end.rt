@@ -4,7 +4,6 @@ ghost use Rattle.lines.specs.Text.{shown_text};
 ghost use Rattle.listing.specs.Listing.{said_at_stop, text_of};
 ghost use Rattle.listing.specs.Blocks.{stop_listed, end_listed};
 
-use given::Given;
 use lines::{LONGEST_LINE, write_spent, write_stopped};
 use replay::Run;
 
@@ -21,11 +20,11 @@ pub fn list_end(run: Run, out: &mut [u8]) -> usize
     write_spent(out, at, spent)
 }
 
-fn list_stop(number: u64, stop: Given, out: &mut [u8]) -> usize
+fn list_stop(number: u64, stop: Option<u64>, out: &mut [u8]) -> usize
     ensures { shown_text result out.new ≡ stop_listed number stop out.old }
 {
     match stop {
-        Given::Absent => 0,
-        Given::Value(cost) => write_stopped(out, 0, number, cost),
+        None => 0,
+        Some(cost) => write_stopped(out, 0, number, cost),
     }
 }

@@ -7,4 +7,4 @@ mod taped;
 
 pub use block::{Listed, list_block};
 pub use end::list_end;
-pub use taped::{FedLines, ListedFeeding, list_feed, list_finish};
+pub use taped::{LinesError, list_feed, list_finish};

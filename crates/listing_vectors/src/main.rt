@@ -11,50 +11,31 @@ mod traces;
 use std::io;
 use std::rt::Files;
 
+const ENOUGH: u64 = 1000000;
+
 fn main(rt: HostRuntime) -> io::Result<()> {
-    worked(&rt)?;
-    short(&rt)?;
-    show(&rt, "requests.trace", 1000000)?;
-    show(&rt, "bad.trace", 1000000)?;
-    show(&rt, "deep.trace", 1000000)?;
-    fuel(&rt)?;
+    // Document 01's example, with its fuel, with exactly what it costs, and with less.
+    show_with(&rt, "worked.trace", &[ENOUGH, 8, 7, 3, 2, 0])?;
+    // No record, a short last one, and nothing but a short one.
+    show_with(&rt, "empty.trace", &[ENOUGH, 0])?;
+    show_with(&rt, "short.trace", &[ENOUGH, 6, 5])?;
+    show_with(&rt, "only_short.trace", &[1, 0])?;
+    show_with(&rt, "requests.trace", &[ENOUGH])?;
+    show_with(&rt, "bad.trace", &[ENOUGH])?;
+    show_with(&rt, "deep.trace", &[ENOUGH])?;
+    // Costs 4, 1, 3 and 3: a fuel that suffices exactly, and one less, for each.
+    show_with(&rt, "fuel.trace", &[0, 3, 4, 5, 7, 8, 10, 11, 12])?;
     blocks::show(&rt)
 }
 
-// Document 01's example, with its fuel, with exactly what it costs, and with less.
-fn worked(rt: &(impl Files + Print)) -> io::Result<()> {
-    show(rt, "worked.trace", 1000000)?;
-    show(rt, "worked.trace", 8)?;
-    show(rt, "worked.trace", 7)?;
-    show(rt, "worked.trace", 3)?;
-    show(rt, "worked.trace", 2)?;
-    show(rt, "worked.trace", 0)
+fn show_with(rt: &(impl Files + Print), name: &str, fuels: &[u64]) -> io::Result<()> {
+    for fuel in fuels {
+        show(rt, name, *fuel)?;
+    }
+    Ok(())
 }
 
-// No record, a short last one, and nothing but a short one.
-fn short(rt: &(impl Files + Print)) -> io::Result<()> {
-    show(rt, "empty.trace", 1000000)?;
-    show(rt, "empty.trace", 0)?;
-    show(rt, "short.trace", 1000000)?;
-    show(rt, "short.trace", 6)?;
-    show(rt, "short.trace", 5)?;
-    show(rt, "only_short.trace", 1)?;
-    show(rt, "only_short.trace", 0)
-}
-
-// Costs 4, 1, 3 and 3: a fuel that suffices exactly, and one less, for each.
-fn fuel(rt: &(impl Files + Print)) -> io::Result<()> {
-    show(rt, "fuel.trace", 0)?;
-    show(rt, "fuel.trace", 3)?;
-    show(rt, "fuel.trace", 4)?;
-    show(rt, "fuel.trace", 5)?;
-    show(rt, "fuel.trace", 7)?;
-    show(rt, "fuel.trace", 8)?;
-    show(rt, "fuel.trace", 10)?;
-    show(rt, "fuel.trace", 11)?;
-    show(rt, "fuel.trace", 12)
-}
-
+// The first lines are those of `tape` in blocks.rt: what follows them is all that either is.
 fn show(rt: &(impl Files + Print), name: &str, fuel: u64) -> io::Result<()> {
     say::title(rt, name, fuel)?;
     let mut bytes = [0u8; 8000];

@@ -11,21 +11,17 @@ pub fn list(rt: &impl Print, bytes: &[u8], fuel: u64) -> io::Result<()> {
     let mut words = [0u64; 256];
     let mut cells = [0u64; 4096];
     let mut text = [0u8; 420];
-    list_on(rt, bytes, fuel, &mut words, &mut cells, &mut text)
-}
-
-fn list_on(
-    rt: &impl Print,
-    bytes: &[u8],
-    fuel: u64,
-    words: &mut [u64],
-    cells: &mut [u64],
-    text: &mut [u8],
-) -> io::Result<()> {
-    let opened = open(32768, 64, words, cells);
-    let run = list_parts(rt, start(opened.state, fuel), words, cells, bytes, text)?;
-    let used = list_end(run, text);
-    say::text(rt, text, used)
+    let opened = open(32768, 64, &words, &cells);
+    let run = list_parts(
+        rt,
+        start(opened.state, fuel),
+        &mut words,
+        &mut cells,
+        bytes,
+        &mut text,
+    )?;
+    let used = list_end(run, &mut text);
+    say::text(rt, &text, used)
 }
 
 fn list_parts(

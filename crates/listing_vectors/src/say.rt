@@ -1,6 +1,4 @@
 // What is printed beside the listings, and how a text goes out.
-ghost use Rattle.std.specs.Prelude.{◌≡◌, min};
-
 use std::io;
 
 pub fn title(rt: &impl Print, name: &str, fuel: u64) -> io::Result<()> {
@@ -29,17 +27,7 @@ pub fn answer(rt: &impl Print, refusal: u64, bytes: &[u8], used: usize) -> io::R
     text(rt, bytes, used)
 }
 
-// The first bytes of a text.
+// The first bytes of a text, cut here, so that no caller cuts.
 pub fn text(rt: &impl Print, bytes: &[u8], used: usize) -> io::Result<()> {
-    let end = least(used, bytes.len());
-    rt.write_all(&bytes[0..end])
-}
-
-pub fn least(a: usize, b: usize) -> usize
-    ensures { result ≡ min a b }
-{
-    if a < b {
-        return a;
-    }
-    b
+    rt.write_all(&bytes[..used.min(bytes.len())])
 }

@@ -1,4 +1,5 @@
 // Rows of numbers, with a title at the top that says what they are.
+// The same stands in reader_vectors, as docs/DECISIONS.md has it: there is no library of what programs print.
 use std::io;
 
 pub fn title(rt: &impl Print, words: &str) -> io::Result<()> {

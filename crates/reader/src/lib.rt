@@ -1,13 +1,17 @@
 // A reader: it holds a lent trace and a place in it, and hands out one request after another. The decoder of the crate request does the work.
-// Functions over a Reader are proved as all others are, with no walk by hand; `next_two` has plain parameters.
+// A Reader is an iterator too; `next_two` has plain parameters.
 #![tactic(auto)]
 
-ghost use Rattle.std.specs.Prelude.{◌≡◌};
+ghost use Rattle.std.specs.Prelude.{◌≡◌, ⊤};
+ghost use Rattle.std.specs.Iterator.{YieldsFirst, item_count, MakesProgress};
 ghost use Rattle.request.specs.Walk.{shown_next, next_at};
-ghost use Rattle.reader.specs.Held.{reader_on, passed, shown_two, nexts_at};
+ghost use Rattle.reader.specs.Held.{reader_on, passed, entries_ahead, shown_two, nexts_at};
 
-use request::{Next, next_request, place_after};
+use record::BadRecord;
+use request::{next_request, place_after};
+use rules::Request;
 
+// Any place is one (`reader_on`), so the rest of the bytes does not stand for it.
 #[derive(Clone, Copy)]
 pub struct Reader<'a> {
     pub bytes: &'a [u8],
@@ -16,8 +20,8 @@ pub struct Reader<'a> {
 
 #[derive(Clone, Copy)]
 pub struct Two {
-    pub first: Next,
-    pub second: Next,
+    pub first: Option<(Result<Request, BadRecord>, usize)>,
+    pub second: Option<(Result<Request, BadRecord>, usize)>,
 }
 
 // A reader of the lent bytes, at a place of them: 0 is their beginning.
@@ -28,7 +32,7 @@ pub fn reader_at<'a>(bytes: &'a [u8], at: usize) -> Reader<'a>
 }
 
 // What stands next: a request, bytes that are none (10), or nothing, at the end.
-pub fn hand_out<'a>(r: Reader<'a>) -> Next
+pub fn hand_out<'a>(r: Reader<'a>) -> Option<(Result<Request, BadRecord>, usize)>
     ensures { shown_next result ≡ next_at r.entry.bytes.now r.entry.at }
 {
     next_request(r.bytes, r.at)
@@ -46,7 +50,7 @@ pub fn advance<'a>(r: Reader<'a>) -> Reader<'a>
 }
 
 // Hands out what stands next, and moves the lent reader past it.
-pub fn take_request<'s, 'a>(r: &'s mut Reader<'a>) -> Next
+pub fn take_request<'s, 'a>(r: &'s mut Reader<'a>) -> Option<(Result<Request, BadRecord>, usize)>
     ensures { (shown_next result ≡ next_at r.old.bytes.now r.old.at) × (r.new ≡ passed r.old) }
 {
     let bytes = r.bytes;
@@ -54,6 +58,22 @@ pub fn take_request<'s, 'a>(r: &'s mut Reader<'a>) -> Next
     let n = next_request(bytes, at);
     r.at = place_after(bytes, at);
     n
+}
+
+// A reader hands out what each record says, in order, and then nothing more.
+impl<'a> Iterator for Reader<'a> {
+    type Item = Result<Request, BadRecord>;
+
+    ghost next_gives = { YieldsFirst entries_ahead };
+
+    ghost remaining = { item_count entries_ahead };
+
+    fn next(&mut self) -> Option<Result<Request, BadRecord>>
+        ensures { (YieldsFirst entries_ahead self.old result self.new) × (MakesProgress (λ _. ⊤) (item_count entries_ahead) self.old result self.new) × (self.new ≡ passed self.old) }
+    {
+        let (entry, _) = take_request(self)?;
+        Some(entry)
+    }
 }
 
 // The two that stand next, from a place of the lent bytes.

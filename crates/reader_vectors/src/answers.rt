@@ -1,9 +1,12 @@
-// The reader's answers, each beside the cursor's. A line: the place, the answer's number, the next place (0 at the end), the request's record (all
-// 0 where there is none), and 1 where the cursor answers otherwise.
+// The reader's answers, each beside the cursor's and the iterator's. A line: the place, the answer's number, the next place (0 at the end), the
+// request's record (all 0 where there is none), and 1 where the cursor or the iterator answers otherwise.
 use crate::say;
-use record::{Record, ZERO_RECORD};
-use request::Next;
+use record::{BadRecord, Record, ZERO_RECORD};
+use rules::Request;
 use std::io;
+
+// What stands at a place, with the place of the next.
+type Next = Option<(Result<Request, BadRecord>, usize)>;
 
 #[derive(Clone, Copy)]
 pub struct Told {
@@ -26,6 +29,7 @@ pub fn turn(rt: &impl Print, trace: &[u8], at: usize) -> io::Result<usize> {
 fn line(rt: &impl Print, trace: &[u8], at: usize, answer: Next) -> io::Result<()> {
     let t = tell(answer);
     let cursor = tell(request::next_request(trace, at));
+    let iterated = tell(handed_on(trace, at));
     let r = t.record;
     say::row(
         rt,
@@ -43,24 +47,31 @@ fn line(rt: &impl Print, trace: &[u8], at: usize, answer: Next) -> io::Result<()
             r.word1,
             r.word2,
             r.word3,
-            unlike(t, cursor),
+            unlike(t, cursor) | unlike(t, iterated),
         ],
     )
 }
 
+// What stands at a place, as the reader's iterator has it.
+fn handed_on(trace: &[u8], at: usize) -> Next {
+    let mut reader = reader::reader_at(trace, at);
+    let entry = reader.next()?;
+    Some((entry, reader.at))
+}
+
 fn tell(answer: Next) -> Told {
     match answer {
-        Next::Asks(q, next) => Told {
+        Some((Ok(q), next)) => Told {
             number: 0,
             next,
             record: request::record_of(q),
         },
-        Next::Bad(next) => Told {
+        Some((Err(BadRecord), next)) => Told {
             number: 10,
             next,
             record: ZERO_RECORD,
         },
-        Next::End => Told {
+        None => Told {
             number: 0,
             next: 0,
             record: ZERO_RECORD,

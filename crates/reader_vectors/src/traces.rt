@@ -1,7 +1,6 @@
 // Traces walked by the reader, two answers a turn: no bytes, document 01's example, the same with record 2 bad, whole and with a short tail of 1
 // and of 39 bytes. Then single turns at places within a record, at the end and beyond it.
 use crate::{answers, say};
-use given::Given;
 use rules::{PushArgs, Request};
 use std::io;
 
@@ -41,28 +40,28 @@ pub fn run(rt: &impl Print) -> io::Result<()> {
 // Push, push, and three pops.
 fn write_example(trace: &mut [u8; 200]) {
     let first = PushArgs {
-        caller: Given::Absent,
+        caller: None,
         callee: 100,
         head: 0,
         params: 0,
         locals: 2,
         slots: 4,
-        instance: Given::Value(1),
+        instance: Some(1),
     };
     let second = PushArgs {
-        caller: Given::Value(101),
+        caller: Some(101),
         callee: 200,
         head: 2,
         params: 1,
         locals: 2,
         slots: 3,
-        instance: Given::Value(2),
+        instance: Some(2),
     };
-    request::write_request(&mut trace[..], 0, Request::Push(first));
-    request::write_request(&mut trace[..], 40, Request::Push(second));
-    request::write_request(&mut trace[..], 80, Request::Pop(2));
-    request::write_request(&mut trace[..], 120, Request::Pop(2));
-    request::write_request(&mut trace[..], 160, Request::Pop(2));
+    let _ = request::write_request(&mut trace[..], 0, Request::Push(first));
+    let _ = request::write_request(&mut trace[..], 40, Request::Push(second));
+    let _ = request::write_request(&mut trace[..], 80, Request::Pop(2));
+    let _ = request::write_request(&mut trace[..], 120, Request::Pop(2));
+    let _ = request::write_request(&mut trace[..], 160, Request::Pop(2));
 }
 
 // The first bytes of a trace, past their end.

@@ -5,10 +5,9 @@
 mod say;
 
 use done::{DoneReason, DoneSlot};
-use given::Given;
-use regs::Aligned;
-use request::Next;
-use rules::{Answer, PushArgs, Request};
+use record::BadRecord;
+use regs::{InRegister, NoAddress};
+use rules::{PushArgs, Reply, Request};
 use std::io;
 
 fn main(rt: HostRuntime) -> io::Result<()> {
@@ -18,45 +17,42 @@ fn main(rt: HostRuntime) -> io::Result<()> {
     let mut text = [0u8; 210];
     leaves(&rt)?;
     let first = calls(&rt, &mut words, &mut cells)?;
-    request::write_request(&mut trace, 0, Request::Push(first));
+    let _ = request::write_request(&mut trace, 0, Request::Push(first));
     records(&rt, &mut trace)?;
     replays(&rt, &mut words, &mut cells, &trace, &mut text)
 }
 
 fn leaves(rt: &impl Print) -> io::Result<()> {
-    let register = regs::from_i8(-1); // 255: the number's bits, zero-extended
+    let register = (-1i8).into_register(); // 255: the number's bits, zero-extended
     let address = match regs::align_relative_to(1003, 1000) {
-        Aligned::At(address) => address, // 1008
-        Aligned::Refused => 0, // 15: ip below base, or no such address
+        Ok(address) => address, // 1008
+        Err(NoAddress) => 0, // 15: ip below base, or no such address
     };
-    let filled = DoneSlot::empty().done_with(DoneReason::Returned(7));
-    let slot = filled.slot;
-    let taken = slot.take_done_reason(); // Took(Returned(7)), and the slot empty again
+    let (filled, slot) = DoneSlot::empty().done_with(DoneReason::Returned(7)); // Ok(()), and the slot
+    let (taken, after) = slot.take_done_reason(); // Ok(Returned(7)), and the slot empty again
     say::number(rt, "register", register)?;
     say::number(rt, "address", address)?;
-    let answer = taken.answer;
-    let after = taken.slot;
-    say::taken(rt, answer)?;
+    say::taken(rt, taken)?;
     say::slot(rt, after)
 }
 
 fn calls(rt: &impl Print, words: &mut [u64], cells: &mut [u64]) -> io::Result<PushArgs> {
     let opened = stack::open(80, 3, words, cells); // M 80 bytes, D 3
     let first = PushArgs {
-        caller: Given::Absent,
+        caller: None,
         callee: 100,
         head: 0,
         params: 0,
         locals: 2,
         slots: 4,
-        instance: Given::Value(1),
+        instance: Some(1),
     };
     let called = stack_calls::push_frame(opened.state, words, cells, first);
     let answer = called.answer;
     let start = match answer {
-        Answer::Done(values) => values.offset, // 0: the start of the new frame
-        Answer::Gone(_) => 0, // 1: only a return can say so
-        Answer::Refused(_) => 0, // 2 and above: nothing has changed
+        Ok(Reply::Done(values)) => values.offset, // 0: the start of the new frame
+        Ok(Reply::Gone(_)) => 0, // 1: only a return can say so
+        Err(_) => 0, // 2 and above: nothing has changed
     };
     let back = stack_calls::pop_frame(called.state, words, cells, 1); // Gone
     let state = opened.state;
@@ -70,11 +66,11 @@ fn calls(rt: &impl Print, words: &mut [u64], cells: &mut [u64]) -> io::Result<Pu
 }
 
 fn records(rt: &impl Print, trace: &mut [u8]) -> io::Result<()> {
-    let written = request::write_request(trace, 40, Request::Pop(2)); // Done; 10: no room
+    let written = request::write_request(trace, 40, Request::Pop(2)); // Ok; 10: no room
     let next = match request::next_request(trace, 0) {
-        Next::Asks(_, next) => next, // a request, and 40, the place of the next record
-        Next::Bad(next) => next, // 10: no lawful record; the walk goes on
-        Next::End => 0, // nothing stands here
+        Some((Ok(_), next)) => next, // a request, and 40, the place of the next record
+        Some((Err(BadRecord), next)) => next, // 10: no lawful record; the walk goes on
+        None => 0, // nothing stands here
     };
     say::written(rt, written)?;
     say::written(rt, request::write_request(trace, 41, Request::Pop(2)))?;
@@ -94,11 +90,11 @@ fn replays(
     say::number(rt, "spent", begun.spent)?;
     let mut run = replay::start(opened.state, 1000000); // number 0, nothing spent
     run = replay::replay(run, words, cells, trace); // number 2, 4 spent
-    let stop = run.stop; // Absent: it did not stop before a record
+    let stop = run.stop; // None: it did not stop before a record
     let listed = listing::list_block(run, words, cells, trace, text); // lines of 2 and 3
     say::number(rt, "number", run.number)?;
     say::number(rt, "spent", run.spent)?;
-    say::number(rt, "stop", given::is_given(stop) as u64)?;
+    say::number(rt, "stop", stop.is_some() as u64)?;
     say::text(rt, text, listed.used)?;
     let used = listing::list_end(listed.run, text);
     say::text(rt, text, used)

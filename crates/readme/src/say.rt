@@ -1,33 +1,21 @@
 // Lines of output: a word and a number, or a text.
-ghost use Rattle.std.specs.Prelude.{◌≡◌, min};
-
-use done::{DoneReason, DoneSlot, Take};
-use record::Written;
+use done::{DoneReason, DoneSlot, NothingToTake};
+use record::{BAD_RECORD, BadRecord};
 use std::io;
 
 pub fn number(rt: &impl Print, word: &str, n: u64) -> io::Result<()> {
     println!(rt; "{word} {n}")
 }
 
-// The first bytes of a text.
+// The first bytes of a text, cut here, as README's lines say the count alone.
 pub fn text(rt: &impl Print, bytes: &[u8], used: usize) -> io::Result<()> {
-    let end = least(used, bytes.len());
-    rt.write_all(&bytes[0..end])
+    rt.write_all(&bytes[..used.min(bytes.len())])
 }
 
-pub fn least(a: usize, b: usize) -> usize
-    ensures { result ≡ min a b }
-{
-    if a < b {
-        return a;
-    }
-    b
-}
-
-pub fn taken(rt: &impl Print, answer: Take) -> io::Result<()> {
+pub fn taken(rt: &impl Print, answer: Result<DoneReason, NothingToTake>) -> io::Result<()> {
     match answer {
-        Take::Took(reason) => returned(rt, reason),
-        Take::NothingToTake => number(rt, "nothing taken", 13),
+        Ok(reason) => returned(rt, reason),
+        Err(refusal) => number(rt, "nothing taken", u64::from(refusal)),
     }
 }
 
@@ -41,15 +29,12 @@ fn returned(rt: &impl Print, reason: DoneReason) -> io::Result<()> {
 }
 
 pub fn slot(rt: &impl Print, after: DoneSlot) -> io::Result<()> {
-    match after {
-        DoneSlot::Empty => number(rt, "reasons left", 0),
-        DoneSlot::Holds(_) => number(rt, "reasons left", 1),
-    }
+    number(rt, "reasons left", after.reason.is_some() as u64)
 }
 
-pub fn written(rt: &impl Print, answer: Written) -> io::Result<()> {
+pub fn written(rt: &impl Print, answer: Result<(), BadRecord>) -> io::Result<()> {
     match answer {
-        Written::Done => number(rt, "written", 0),
-        Written::Bad => number(rt, "written", 10),
+        Ok(()) => number(rt, "written", 0),
+        Err(BadRecord) => number(rt, "written", BAD_RECORD),
     }
 }

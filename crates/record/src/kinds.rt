@@ -1,4 +1,5 @@
-// The kinds of requests, by the numbers that trace records have them as.
+// The kinds of requests, by the numbers that trace records have them as. Bytes, since a record and C have any: the enum of the nine is
+// `rules::Request`, and one of bare kinds would only stand between two matches.
 pub const PUSH: u8 = 1;
 
 pub const POP: u8 = 2;

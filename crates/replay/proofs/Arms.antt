@@ -3,8 +3,10 @@
 --     refused_says, arm_bad           a record that is refused, and one that reads badly
 --     arm_refused                     a request that is judged, and refused
 --     arm_stops, arm_goes             an accepted one: the fuel does not cover it, or it is run
+use Rattle.std.specs.Prelude.{Ok, Err, Result}
 use Rattle.std.proofs.Common.{◌≡◌, ℕ, ◌+◌, ◌-◌, ◌<◌, ◌≤◌, Bool, true, false, ltb, List, refl, ap, ◌∙◌}
 use Rattle.choice.specs.Choose.{choose}
+use Rattle.record.specs.Reading.{bad_record}
 use Rattle.rules.specs.declared.State.{State}
 use Rattle.rules.specs.declared.Request.{Request}
 use Rattle.rules.specs.declared.Request.TheVariants.{Push, Pop, Replace, Host, ReturnHost, Sync, Restore, Reset, Set}
@@ -12,8 +14,6 @@ use Rattle.rules.specs.declared.Asked.TheVariants.{Traced}
 use Rattle.rules.specs.declared.Refusal.{Refusal}
 use Rattle.rules.specs.declared.Room.{Room}
 use Rattle.rules.specs.declared.Outcome.{Outcome}
-use Rattle.rules.specs.declared.Judgement.{Judgement}
-use Rattle.rules.specs.declared.Judgement.TheVariants.{Refuse, Accept}
 use Rattle.rules.specs.World.{World, world_of}
 use Rattle.rules.specs.Answers.{refusal_number, After, refused_with, shown_answer, shown_outcome, shown_judgement, judged}
 use Rattle.rules.specs.Calls.{pushed, replaced}
@@ -21,8 +21,7 @@ use Rattle.rules.specs.Returns.{popped}
 use Rattle.rules.specs.Hosts.{hosted, returned_host}
 use Rattle.rules.specs.Syncs.{synced, restored, emptied, cell_set}
 use Rattle.rules.specs.Rules.{tests_of, room_for, effect_in}
-use Rattle.request.specs.declared.Decoded.{Decoded}
-use Rattle.request.specs.declared.Decoded.TheVariants.{Asks, Bad}
+use Rattle.request.specs.Requests.{Decoded}
 use Rattle.replay.specs.declared.flat.Fixed.{Fixed}
 use Rattle.replay.specs.declared.flat.Moving.{Moving}
 use Rattle.replay.specs.declared.flat.Went.{Went}
@@ -62,26 +61,26 @@ module _ (f : Fixed) (m : Moving) (words cells : List ℕ) where
       by true = refl
       by false = ap (λ x. shown_ran x words cells) (went_says f m (state_again f m) (refl, refl, refl, refl) (m.spent + 1) number 0)
 
-  pub arm_bad : (x : Went) → x ≡ went_refused f m 10 → (d : Decoded) → Bad ≡ d → went_shown f x words cells ≡ ran_on running d
+  pub arm_bad : (x : Went) → x ≡ went_refused f m 10 → (d : Decoded) → Err bad_record ≡ d → went_shown f x words cells ≡ ran_on running d
   unfolding running_again run_again
   arm_bad x e d says = ap (λ x. went_shown f x words cells) e ∙ refused_says 10 ∙ ran_bad running ∙ ap (ran_on running) says
 
   -- ---- judged; s is the state that the judgement was given
-  module _ (q : Request) (s : State) (same : s ≡ state_again f m) (j : Judgement)
+  module _ (q : Request) (s : State) (same : s ≡ state_again f m) (j : Result Room Refusal)
       (e : shown_judgement j ≡ judged (tests_of (world_of s words cells) (Traced q)) (room_for (world_of s words cells) (Traced q)))
-      (d : Decoded) (says : Asks q ≡ d)
+      (d : Decoded) (says : Ok q ≡ d)
     where
       judged_so : shown_judgement j ≡ judged (tests_of at_first (Traced q)) (room_for at_first (Traced q))
       judged_so = e ∙ ap (λ (s : State). judged (tests_of (world_of s words cells) (Traced q)) (room_for (world_of s words cells) (Traced q))) same
 
-      pub arm_refused : (why : Refusal) → j ≡ Refuse why → (x : Went) → x ≡ went_refused f m (refusal_number why) → went_shown f x words cells ≡ ran_on running d
+      pub arm_refused : (why : Refusal) → j ≡ Err why → (x : Went) → x ≡ went_refused f m (refusal_number why) → went_shown f x words cells ≡ ran_on running d
       unfolding running_again run_again
       arm_refused why p x r =
           ap (λ x. went_shown f x words cells) r ∙ refused_says (refusal_number why) ∙ ran_refused (run_again f m) words cells q j judged_so why _ p refl
           ∙ ap (ran_on running) says
 
       -- accepted, in its room
-      module _ (room : Room) (p : j ≡ Accept room) (cost : ℕ) (costs : cost ≡ 1 + work_of q) where
+      module _ (room : Room) (p : j ≡ Ok room) (cost : ℕ) (costs : cost ≡ 1 + work_of q) where
         abbrev effect : After
         effect = effect_in at_first (Traced q) room
 

@@ -1,23 +1,22 @@
 -- A record by its kind, and the record at a place. Assumes nothing.
 --     broken_says, kept_says       a record that breaks the rules of its kind's row, or keeps them
---     says_push, .. says_set       the request of each kind
 --     no_kind_says                 a kind that is none of the nine
 --     request_says                 the record of a request says it
 --     fields_say_lem, fields_say_none  the record at a place, by what its numbers gave
+use Rattle.std.specs.Prelude.{Ok, Err}
 use Rattle.std.proofs.Common.{◌≡◌, ℕ, ◌+◌, ◌<◌, ◌≤◌, Bool, true, false, not, List, length, sym, refl, ap, ◌∙◌, arith}
 use native.Mathlib.Decide.{dec_lt}
 use Rattle.choice.specs.Choose.{choose}
 use Rattle.choice.proofs.Choices.{chosen_first, chosen_second}
 use Rattle.record.specs.declared.Record.{Record}
+use Rattle.record.specs.declared.table.KindRow.{KindRow}
 use Rattle.record.specs.Kinds.{row_of_kind, lawful_record}
 use Rattle.record.specs.Coded.{coded_row, lawful_as}
-use Rattle.record.specs.Reading.{read_number, read_refused, read_at, fields_at, found_lawful}
+use Rattle.record.specs.Reading.{read_number, read_refused, read_at, fields_at, found_lawful, bad_record}
 use Rattle.record.proofs.Coding.{kind_zero, kind_beyond, lawful_as_lem}
 use Rattle.record.proofs.Reading.{fields_bad, fields_found}
 use Rattle.rules.specs.declared.Request.{Request}
-use Rattle.rules.specs.declared.Request.TheVariants.{Push, Pop, Replace, Host, ReturnHost, Sync, Restore, Reset, Set}
-use Rattle.request.specs.declared.Decoded.TheVariants.{Asks, Bad}
-use Rattle.request.specs.Requests.{record_for, push_in, replace_in, host_in, return_host_in, request_in}
+use Rattle.request.specs.Requests.{record_for, request_in}
 use Rattle.request.specs.Entries.{entry_at}
 use Rattle.request.proofs.Meanings.{request_said, request_lawful}
 use Rattle.request.proofs.Nexts.{next_found, next_bad}
@@ -28,50 +27,18 @@ peeled : (n k : ℕ) → n ≤ k + 1 → (n ≡ k + 1 → ⊥) → n ≤ k
 peeled n k h ne = omega arith
 
 module _ (r : Record) where
-  pub broken_says : (k : ℕ) → r.kind ≡ k → (b : Bool) → b ≡ lawful_as (coded_row (row_of_kind k)) r → b ≡ false → Bad ≡ entry_for r
-  unfolding entry_for
-  broken_says k e b p q = chosen_second _ _ _ _ _ (sym (lawful_as_lem r k e) ∙ sym p ∙ q) refl
+  -- b is what `keeps_row` said of its kind's row
+  module _ (k : ℕ) (e : r.kind ≡ k) (row : KindRow) (is : row ≡ coded_row (row_of_kind k)) (b : Bool) (p : b ≡ lawful_as row r) where
+    kept_so : b ≡ lawful_record r
+    kept_so = p ∙ ap (λ (row : KindRow). lawful_as row r) is ∙ lawful_as_lem r k e
 
-  pub kept_says : (k : ℕ) → r.kind ≡ k → (b : Bool) → b ≡ lawful_as (coded_row (row_of_kind k)) r → b ≡ true → (q : Request) → q ≡ request_in r
-      → Asks q ≡ entry_for r
-  unfolding entry_for
-  kept_says k e b p t q says = chosen_first _ _ _ _ _ (sym (lawful_as_lem r k e) ∙ sym p ∙ t) (ap Asks says)
+    pub broken_says : b ≡ false → Err bad_record ≡ entry_for r
+    unfolding entry_for
+    broken_says f = chosen_second _ _ _ _ _ (sym kept_so ∙ f) refl
 
-  pub says_push : r.kind ≡ 1 → Push (push_in r) ≡ request_in r
-  unfolding request_in choose
-  says_push e = rw e
-
-  pub says_pop : r.kind ≡ 2 → Pop r.word3 ≡ request_in r
-  unfolding request_in choose
-  says_pop e = rw e
-
-  pub says_replace : r.kind ≡ 3 → Replace (replace_in r) ≡ request_in r
-  unfolding request_in choose
-  says_replace e = rw e
-
-  pub says_host : r.kind ≡ 4 → Host (host_in r) ≡ request_in r
-  unfolding request_in choose
-  says_host e = rw e
-
-  pub says_return_host : r.kind ≡ 5 → ReturnHost (return_host_in r) ≡ request_in r
-  unfolding request_in choose
-  says_return_host e = rw e
-
-  pub says_sync : r.kind ≡ 6 → Sync r.word1 ≡ request_in r
-  unfolding request_in choose
-  says_sync e = rw e
-
-  pub says_restore : r.kind ≡ 7 → Restore ≡ request_in r
-  unfolding request_in choose
-  says_restore e = rw e
-
-  pub says_reset : r.kind ≡ 8 → Reset ≡ request_in r
-  unfolding request_in choose
-  says_reset e = rw e
-
-  pub says_set : r.kind ≡ 9 → Set r.head r.word2 ≡ request_in r
-  unfolding request_in choose
-  says_set e = rw e
+    pub kept_says : b ≡ true → (q : Request) → q ≡ request_in r → Ok q ≡ entry_for r
+    unfolding entry_for
+    kept_says t q says = chosen_first _ _ _ _ _ (sym kept_so ∙ t) (ap Ok says)
 
   none_of_nine : (r.kind ≡ 1 → ⊥) → (r.kind ≡ 2 → ⊥) → (r.kind ≡ 3 → ⊥) → (r.kind ≡ 4 → ⊥) → (r.kind ≡ 5 → ⊥) → (r.kind ≡ 6 → ⊥) → (r.kind ≡ 7 → ⊥)
       → (r.kind ≡ 8 → ⊥) → (r.kind ≡ 9 → ⊥) → false ≡ lawful_record r
@@ -86,24 +53,24 @@ module _ (r : Record) where
           kind_zero r (omega (arith, none))
 
   pub no_kind_says : (r.kind ≡ 1 → ⊥) → (r.kind ≡ 2 → ⊥) → (r.kind ≡ 3 → ⊥) → (r.kind ≡ 4 → ⊥) → (r.kind ≡ 5 → ⊥) → (r.kind ≡ 6 → ⊥) → (r.kind ≡ 7 → ⊥)
-      → (r.kind ≡ 8 → ⊥) → (r.kind ≡ 9 → ⊥) → Bad ≡ entry_for r
+      → (r.kind ≡ 8 → ⊥) → (r.kind ≡ 9 → ⊥) → Err bad_record ≡ entry_for r
   unfolding entry_for
   no_kind_says a b c d e f g h i = chosen_second _ _ _ _ _ (sym (none_of_nine a b c d e f g h i)) refl
 
 -- ---- the record of a request
-pub request_says : (q : Request) → entry_for (record_for q) ≡ Asks q
+pub request_says : (q : Request) → entry_for (record_for q) ≡ Ok q
 unfolding entry_for
-request_says q = sym (chosen_first _ _ _ _ _ (request_lawful q) (ap Asks (sym (request_said q))))
+request_says q = sym (chosen_first _ _ _ _ _ (request_lawful q) (ap Ok (sym (request_said q))))
 
 -- ---- the record at a place before the end
 module _ (bytes : List ℕ) (at : ℕ) (inside : at < length bytes) where
-  pub fields_say_none : read_refused 10 ≡ fields_at bytes at → Bad ≡ entry_at bytes at
+  pub fields_say_none : read_refused 10 ≡ fields_at bytes at → Err bad_record ≡ entry_at bytes at
   fields_say_none e = sym (entry_bad bytes at _ inside (next_bad bytes at inside (fields_bad bytes at e))).0
 
   pub fields_say_lem : (r : Record) → read_number 0 r ≡ fields_at bytes at → entry_for r ≡ entry_at bytes at
   unfolding entry_for found_lawful choose
   fields_say_lem r e = by (lawful_record r) (fields_found bytes at r e)
     where
-      by : (b : Bool) → choose (not b) (read_refused 10) (read_number 0 r) ≡ read_at bytes at → choose b (Asks (request_in r)) Bad ≡ entry_at bytes at
+      by : (b : Bool) → choose (not b) (read_refused 10) (read_number 0 r) ≡ read_at bytes at → choose b (Ok (request_in r)) (Err bad_record) ≡ entry_at bytes at
       by true p = sym (entry_asks bytes at _ _ inside (next_found bytes at inside r p)).0
       by false p = sym (entry_bad bytes at _ inside (next_bad bytes at inside p)).0

@@ -5,25 +5,22 @@
 --     went_leaves, went_goes       what a record left, and how it goes on
 --     went_stopped_lem                 where the run stopped before it
 --     run_running                  a run made of its parts, with the buffers
-use Rattle.std.proofs.Common.{◌≡◌, ℕ, Bool, true, false, List, sym, refl, ap, ◌∙◌, true≢false}
-use Rattle.given.specs.declared.Given.{Given}
-use Rattle.given.specs.declared.Given.TheVariants.{Absent, Value}
-use Rattle.given.specs.Given.{is_given, given_if}
-use Rattle.given.proofs.Flags.{given_again}
+use Rattle.std.specs.Prelude.{Option, None, Some, is_some}
+use Rattle.std.proofs.Common.{◌≡◌, ℕ, true, false, List, sym, refl, ap, ◌∙◌, true≢false}
 use Rattle.rules.specs.declared.State.{State}
-use Rattle.request.specs.declared.Decoded.{Decoded}
+use Rattle.request.specs.Requests.{Decoded}
 use Rattle.replay.specs.declared.run.Run.{Run}
 use Rattle.replay.specs.declared.run.Ran.{Ran}
 use Rattle.replay.specs.declared.flat.Fixed.{Fixed}
 use Rattle.replay.specs.declared.flat.Moving.{Moving}
 use Rattle.replay.specs.declared.flat.Went.{Went}
 use Rattle.replay.specs.Running.{Running, ShownRan, running_of, run_with, next_number, run_moved, ran_by, shown_ran, ran_on, ran}
-use Rattle.replay.specs.Packing.{fixed_in, moving_in, state_again, run_stops, run_again, running_again, ran_again, went_shown, number_or, went_on_with, PartsAgain}
+use Rattle.replay.specs.Packing.{fixed_in, moving_in, state_again, run_stops, run_again, running_again, ran_again, went_shown, went_on_with, PartsAgain}
 use Rattle.replay.proofs.Records.{ran_on_lem}
 
-not_stopped : (g : Given) → is_given g ≡ false → Absent ≡ g
-not_stopped Absent e = refl
-not_stopped (Value n) e = absurd (true≢false e)
+not_stopped : (g : Option ℕ) → is_some g ≡ false → None ≡ g
+not_stopped None e = refl
+not_stopped (Some n) e = absurd (true≢false e)
 
 pub parts_again : PartsAgain
 unfolding fixed_in moving_in state_again run_again
@@ -35,14 +32,10 @@ parts_again r e = λ i. run_with
       cells = r.state.cells;
       count = r.state.count;
       len = r.state.len;
-      current = given_again r.state.current i;
+      current = r.state.current;
       regs = r.state.regs;
     })
     r.number r.fuel r.spent (not_stopped r.stop e i)
-
-number_kept : (g : Given) (was : ℕ) → given_if (is_given g) (number_or g was) ≡ g
-number_kept Absent was = refl
-number_kept (Value n) was = refl
 
 -- what no record changes of a state
 abbrev pub SameLimits : State → State → Type 0
@@ -60,14 +53,14 @@ went_says f m s k spent answer offset = λ i. ran_by
       cells = sym k.3 i;
       count = s.count;
       len = s.len;
-      current = number_kept s.current m.current i;
+      current = s.current;
       regs = s.regs;
     })
-    (next_number m.number) f.fuel spent Absent)
+    (next_number m.number) f.fuel spent None)
     answer offset
 
 -- ---- the parts of a run that has not stopped
-module _ (r : Run) (e : is_given r.stop ≡ false) (f : Fixed) (p : f ≡ fixed_in r) (m : Moving) (q : m ≡ moving_in r) (words cells : List ℕ) where
+module _ (r : Run) (e : is_some r.stop ≡ false) (f : Fixed) (p : f ≡ fixed_in r) (m : Moving) (q : m ≡ moving_in r) (words cells : List ℕ) where
   pub parts_running : running_again f m words cells ≡ running_of r words cells
   unfolding running_again
   parts_running = ap (λ (r : Run). running_of r words cells) ((λ i. run_again (p i) (q i)) ∙ parts_again r e)
@@ -91,13 +84,13 @@ module _ (f : Fixed) (m : Moving) (words cells : List ℕ) (d : Decoded) (w : We
     unfolding went_shown
     went_leaves x s = ap (λ (x : Ran). running_of x.run ws cs) s ∙ left_by
 
-    pub went_goes : w.stopped ≡ false → running_again f w.moving ws cs ≡ (ran (running_again f m words cells) d).run
+    pub went_goes : is_some w.stop ≡ false → running_again f w.moving ws cs ≡ (ran (running_again f m words cells) d).run
     unfolding went_shown ran_again running_again run_again
-    went_goes e = ap (λ (b : Bool). running_of (run_stops f w.moving (given_if b w.cost)) ws cs) (sym e) ∙ left_by
+    went_goes e = ap (λ (g : Option ℕ). running_of (run_stops f w.moving g) ws cs) (not_stopped w.stop e) ∙ left_by
 
-pub went_stopped_lem : (f : Fixed) (w : Went) → w.stopped ≡ true → (x : Ran) → x ≡ ran_again f w → is_given x.run.stop ≡ true
+pub went_stopped_lem : (f : Fixed) (w : Went) → is_some w.stop ≡ true → (x : Ran) → x ≡ ran_again f w → is_some x.run.stop ≡ true
 unfolding ran_again
-went_stopped_lem f w e x s = ap (λ (x : Ran). is_given x.run.stop) s ∙ ap (λ (b : Bool). is_given (given_if b w.cost)) e
+went_stopped_lem f w e x s = ap (λ (x : Ran). is_some x.run.stop) s ∙ e
 
 -- ---- a run made of its parts
 pub run_running : (f : Fixed) (m : Moving) (words cells : List ℕ) (r : Run) → r ≡ run_again f m → running_of r words cells ≡ running_again f m words cells

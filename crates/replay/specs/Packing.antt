@@ -8,11 +8,8 @@
 --     went_refused f m number             a record that is refused, at a cost of 1
 -- One statement, PartsAgain: the two parts of a run that has not stopped make that run.
 -- All are names that laws unfold, so that a proof of a function carries the name and not the numbers behind it.
-use Rattle.std.specs.Prelude.{◌≡◌, ℕ, ◌+◌, ◌-◌, true, false, List, nat_lt}
+use Rattle.std.specs.Prelude.{◌≡◌, ℕ, ◌+◌, ◌-◌, false, List, nat_lt, Option, None, Some, is_some}
 use Rattle.choice.specs.Choose.{choose}
-use Rattle.given.specs.declared.Given.{Given}
-use Rattle.given.specs.declared.Given.TheVariants.{Absent, Value}
-use Rattle.given.specs.Given.{is_given, given_number, given_if}
 use Rattle.rules.specs.declared.State.{State}
 use Rattle.replay.specs.declared.run.Run.{Run}
 use Rattle.replay.specs.declared.run.Ran.{Ran}
@@ -24,12 +21,11 @@ use Rattle.replay.specs.Running.{Running, ShownRan, running_of, run_with, next_n
 unfoldable pub fixed_in : Run → Fixed
 fixed_in r = record { depth = r.state.depth; height = r.state.height; words = r.state.words; cells = r.state.cells; fuel = r.fuel }
 
-abbrev pub moving_with : State → (current number spent : ℕ) → Moving
-moving_with s current number spent = record {
+abbrev pub moving_with : State → (number spent : ℕ) → Moving
+moving_with s number spent = record {
   count = s.count;
   len = s.len;
-  named = is_given s.current;
-  current = current;
+  current = s.current;
   ireg = s.regs.ireg;
   freg32 = s.regs.freg32;
   freg64 = s.regs.freg64;
@@ -38,7 +34,7 @@ moving_with s current number spent = record {
 }
 
 unfoldable pub moving_in : Run → Moving
-moving_in r = moving_with r.state (given_number r.state.current) r.number r.spent
+moving_in r = moving_with r.state r.number r.spent
 
 unfoldable pub state_again : Fixed → Moving → State
 state_again f m = record {
@@ -48,18 +44,18 @@ state_again f m = record {
   cells = f.cells;
   count = m.count;
   len = m.len;
-  current = given_if m.named m.current;
+  current = m.current;
   regs = record { ireg = m.ireg; freg32 = m.freg32; freg64 = m.freg64 };
 }
 
-abbrev pub run_stops : Fixed → Moving → (stop : Given) → Run
+abbrev pub run_stops : Fixed → Moving → (stop : Option ℕ) → Run
 run_stops f m stop = run_with (state_again f m) m.number f.fuel m.spent stop
 
 unfoldable pub run_again : Fixed → Moving → Run
-run_again f m = run_stops f m Absent
+run_again f m = run_stops f m None
 
 unfoldable pub ran_again : Fixed → Went → Ran
-ran_again f w = ran_by (run_stops f w.moving (given_if w.stopped w.cost)) w.answer w.offset
+ran_again f w = ran_by (run_stops f w.moving w.stop) w.answer w.offset
 
 unfoldable pub running_again : Fixed → Moving → (words cells : List ℕ) → Running
 running_again f m words cells = running_of (run_again f m) words cells
@@ -67,25 +63,19 @@ running_again f m words cells = running_of (run_again f m) words cells
 unfoldable pub went_shown : Fixed → Went → (words cells : List ℕ) → ShownRan
 went_shown f w words cells = shown_ran (ran_again f w) words cells
 
--- the number as it was, where there is none now
-abbrev pub number_or : Given → (was : ℕ) → ℕ
-number_or Absent was = was
-number_or (Value n) was = n
-
 unfoldable pub went_on_with : Moving → State → (spent answer offset : ℕ) → Went
 went_on_with m s spent answer offset = record {
-  moving = moving_with s (number_or s.current m.current) (next_number m.number) spent;
-  stopped = false;
-  cost = 0;
+  moving = moving_with s (next_number m.number) spent;
+  stop = None;
   answer = answer;
   offset = offset;
 }
 
 unfoldable pub went_stopped : Moving → (cost : ℕ) → Went
-went_stopped m cost = record { moving = m; stopped = true; cost = cost; answer = 0; offset = 0 }
+went_stopped m cost = record { moving = m; stop = Some cost; answer = 0; offset = 0 }
 
 unfoldable pub went_refused : Fixed → Moving → (number : ℕ) → Went
 went_refused f m number = choose (nat_lt (f.fuel - m.spent) 1) (went_stopped m 1) (went_on_with m (state_again f m) (m.spent + 1) number 0)
 
 abbrev pub PartsAgain : Type 0
-PartsAgain = (r : Run) → is_given r.stop ≡ false → run_again (fixed_in r) (moving_in r) ≡ r
+PartsAgain = (r : Run) → is_some r.stop ≡ false → run_again (fixed_in r) (moving_in r) ≡ r

@@ -3,25 +3,22 @@
 --     TraceTails               where the run has not stopped, what rules says of what they ask for
 --     TraceTailReturn          and one accepted return then makes the instance A current, if a caller's frame exists
 --     StoppedTails             where it stopped before a record, the same of those before it: a stop changes nothing
-use Rattle.std.specs.Prelude.{◌≡◌, ℕ, ◌<◌, false, List}
-use Rattle.given.specs.declared.Given.TheVariants.{Value}
-use Rattle.given.specs.Given.{is_given}
+use Rattle.std.specs.Prelude.{◌≡◌, ℕ, ◌<◌, false, List, Ok, Some, is_some}
 use Rattle.rules.specs.declared.Request.{Request}
 use Rattle.rules.specs.Returning.{Gives}
 use Rattle.rules.specs.Tails.{AllTails, NothingOwed, TailsFollow}
-use Rattle.request.specs.declared.Decoded.{Decoded}
-use Rattle.request.specs.declared.Decoded.TheVariants.{Asks}
+use Rattle.request.specs.Requests.{Decoded}
 use Rattle.replay.specs.Running.{Running, ShownRan, ran, ran_all}
 use Rattle.replay.specs.Spent.{StoppedAt}
 use Rattle.replay.specs.Resumed.{events_of}
 
 abbrev pub TraceTails : Type 0
 TraceTails =
-    (v : Running) (ds : List Decoded) → AllTails (events_of ds) → is_given (ran_all v ds).stop ≡ false
+    (v : Running) (ds : List Decoded) → AllTails (events_of ds) → is_some (ran_all v ds).stop ≡ false
     → TailsFollow v.world (events_of ds) (ran_all v ds).world
 
 abbrev pub return_after : Running → List Decoded → Request → ShownRan
-return_after v ds r = ran (ran_all v ds) (Asks r)
+return_after v ds r = ran (ran_all v ds) (Ok r)
 
 abbrev pub TraceTailReturn : Type 0
 TraceTailReturn =
@@ -29,8 +26,8 @@ TraceTailReturn =
     -- the return is accepted, and the fuel has covered all
     → Gives r i
     → (return_after v ds r).answer < 2
-    → is_given (return_after v ds r).run.stop ≡ false
-    → (return_after v ds r).run.world.state.current ≡ Value A
+    → is_some (return_after v ds r).run.stop ≡ false
+    → (return_after v ds r).run.world.state.current ≡ Some A
 
 abbrev pub StoppedTails : Type 0
 StoppedTails =

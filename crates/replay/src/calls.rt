@@ -1,102 +1,96 @@
-// Push, pop and replace in a trace: the record keeps its row of the table, its request is judged, the fuel is tested, and only then is anything written.
-ghost use Rattle.std.specs.Prelude.{◌≡◌};
-ghost use Rattle.replay.specs.Packing.{running_again, went_shown};
-ghost use Rattle.replay.specs.Running.{ran_on};
-ghost use Rattle.replay.specs.ByKind.{entry_for};
+// Push, pop and replace as kinds of a trace.
+#![tactic(auto, unfolding(request::specs::Requests::request_in, choice::specs::Choose::choose))]
 
-use crate::cost::{ONE, push_cost, replace_cost};
-use crate::flat::{
-    Fixed, Moving, Went, left_of, refused_at, refused_for, state_again, stopped_before, went_by,
-};
-use record::{BAD_RECORD, POP_ROW, PUSH_ROW, REPLACE_ROW, Record, keeps_row};
+ghost use Rattle.rules.specs.declared.Request.TheVariants.{Push, Pop, Replace};
+
+use crate::cost::ONE;
+use crate::kind::Kind;
+use record::{KindRow, POP_ROW, PUSH_ROW, REPLACE_ROW, Record};
 use request::{push_in, replace_in};
-use rules::Judgement;
+use rules::{Outcome, PushArgs, Refusal, ReplaceArgs, Room, State};
 use stack_calls::{judge_pop, judge_push, judge_replace, step_pop, step_push, step_replace};
 
-// ---- push
+impl Kind for PushArgs {
+    ghost number = { 1 };
 
-pub(crate) fn push_turn(
-    f: Fixed,
-    m: Moving,
-    words: &mut [u64],
-    cells: &mut [u64],
-    r: Record,
-) -> Went
-    requires { r.kind ≡ 1 }
-    ensures { went_shown f result words.new cells.new
-        ≡ ran_on (running_again f m words.old cells.old) (entry_for r) }
-{
-    if !keeps_row(PUSH_ROW, r) {
-        return refused_at(f, m, BAD_RECORD);
+    ghost says = { Push };
+
+    fn row() -> KindRow {
+        PUSH_ROW
     }
-    let q = push_in(r);
-    let s = state_again(f, m);
-    match judge_push(s, words, cells, q) {
-        Judgement::Refuse(why) => refused_for(f, m, why),
-        Judgement::Accept(room) => {
-            let spent = m.spent;
-            let cost = push_cost(q);
-            if left_of(f.fuel, spent) < cost {
-                return stopped_before(m, cost);
-            }
-            let total = spent + cost;
-            went_by(m, step_push(s, words, cells, q, room), total)
-        }
+
+    fn read(r: Record) -> PushArgs {
+        push_in(r)
+    }
+
+    fn judge(self, s: State, words: &[u64], cells: &[u64]) -> Result<Room, Refusal> {
+        judge_push(s, words, cells, self)
+    }
+
+    // The locals behind the parameters are zeroed.
+    fn cost(self) -> u64 {
+        ONE + self.locals.saturating_sub(self.params) as u64
+    }
+
+    fn step(self, s: State, words: &mut [u64], cells: &mut [u64], room: Room) -> Outcome {
+        step_push(s, words, cells, self, room)
     }
 }
 
-// ---- pop
+#[derive(Clone, Copy)]
+pub(crate) struct PopArgs {
+    pub instance: u64,
+}
 
-pub(crate) fn pop_turn(f: Fixed, m: Moving, words: &mut [u64], cells: &mut [u64], r: Record) -> Went
-    requires { r.kind ≡ 2 }
-    ensures { went_shown f result words.new cells.new
-        ≡ ran_on (running_again f m words.old cells.old) (entry_for r) }
-{
-    if !keeps_row(POP_ROW, r) {
-        return refused_at(f, m, BAD_RECORD);
+impl Kind for PopArgs {
+    ghost number = { 2 };
+
+    ghost says = { λ q. Pop q.instance };
+
+    fn row() -> KindRow {
+        POP_ROW
     }
-    let s = state_again(f, m);
-    match judge_pop(s, words, cells) {
-        Judgement::Refuse(why) => refused_for(f, m, why),
-        Judgement::Accept(room) => {
-            let spent = m.spent;
-            if left_of(f.fuel, spent) < ONE {
-                return stopped_before(m, ONE);
-            }
-            let total = spent + ONE;
-            went_by(m, step_pop(s, words, cells, r.word3, room), total)
-        }
+
+    fn read(r: Record) -> PopArgs {
+        PopArgs { instance: r.word3 }
+    }
+
+    fn judge(self, s: State, words: &[u64], cells: &[u64]) -> Result<Room, Refusal> {
+        judge_pop(s, words, cells)
+    }
+
+    fn cost(self) -> u64 {
+        ONE
+    }
+
+    fn step(self, s: State, words: &mut [u64], cells: &mut [u64], room: Room) -> Outcome {
+        step_pop(s, words, cells, self.instance, room)
     }
 }
 
-// ---- replace
+impl Kind for ReplaceArgs {
+    ghost number = { 3 };
 
-pub(crate) fn replace_turn(
-    f: Fixed,
-    m: Moving,
-    words: &mut [u64],
-    cells: &mut [u64],
-    r: Record,
-) -> Went
-    requires { r.kind ≡ 3 }
-    ensures { went_shown f result words.new cells.new
-        ≡ ran_on (running_again f m words.old cells.old) (entry_for r) }
-{
-    if !keeps_row(REPLACE_ROW, r) {
-        return refused_at(f, m, BAD_RECORD);
+    ghost says = { Replace };
+
+    fn row() -> KindRow {
+        REPLACE_ROW
     }
-    let q = replace_in(r);
-    let s = state_again(f, m);
-    match judge_replace(s, words, cells, q) {
-        Judgement::Refuse(why) => refused_for(f, m, why),
-        Judgement::Accept(room) => {
-            let spent = m.spent;
-            let cost = replace_cost(q);
-            if left_of(f.fuel, spent) < cost {
-                return stopped_before(m, cost);
-            }
-            let total = spent + cost;
-            went_by(m, step_replace(s, words, cells, q, room), total)
-        }
+
+    fn read(r: Record) -> ReplaceArgs {
+        replace_in(r)
+    }
+
+    fn judge(self, s: State, words: &[u64], cells: &[u64]) -> Result<Room, Refusal> {
+        judge_replace(s, words, cells, self)
+    }
+
+    // The parameters are copied, and the locals behind them zeroed.
+    fn cost(self) -> u64 {
+        ONE + self.locals as u64
+    }
+
+    fn step(self, s: State, words: &mut [u64], cells: &mut [u64], room: Room) -> Outcome {
+        step_replace(s, words, cells, self, room)
     }
 }

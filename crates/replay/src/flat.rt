@@ -1,17 +1,18 @@
-// A run as numbers alone, for a loop to carry round: what no record changes, and what a record may change. An enum that crosses from one record to the
-// next costs as much as the record itself.
+// A run for a loop to carry round: what no record changes, and what a record may change. A whole `Run` that crosses from one record to the next costs a
+// fifth more instructions (190 a record for 155, call-heavy), and so do the registers as a struct in `Moving` (187).
+#![tactic(auto, unfolding(crate::specs::Packing::fixed_in, crate::specs::Packing::moving_in, crate::specs::Packing::state_again, crate::specs::Packing::run_again, crate::specs::Packing::ran_again, crate::specs::Packing::went_on_with, crate::specs::Packing::went_stopped))]
+
 ghost use Rattle.std.specs.Prelude.{◌≡◌, ◌-◌};
 ghost use Rattle.rules.specs.Answers.{refusal_number, shown_answer};
-ghost use Rattle.replay.specs.Packing.{fixed_in, moving_in, state_again, run_again, ran_again, number_or, went_on_with, went_stopped, went_refused};
+ghost use Rattle.replay.specs.Packing.{fixed_in, moving_in, state_again, run_again, ran_again, went_on_with, went_stopped, went_refused};
 
 use crate::run::{Ran, Run};
-use given::{Given, given_if, given_number, is_given};
 use regs::Registers;
 use rules::{Outcome, Refusal, State};
-use stack::{answer_number, answer_offset, refusal_number};
+use stack::{answer_number, answer_offset};
 
 #[derive(Clone, Copy)]
-pub struct Fixed {
+pub(crate) struct Fixed {
     pub depth: usize,
     pub height: usize,
     pub words: usize,
@@ -19,13 +20,11 @@ pub struct Fixed {
     pub fuel: u64,
 }
 
-// A flag and a number stand for the current instance; beside a flag that is not set the number says nothing.
 #[derive(Clone, Copy)]
-pub struct Moving {
+pub(crate) struct Moving {
     pub count: usize,
     pub len: usize,
-    pub named: bool,
-    pub current: u64,
+    pub current: Option<u64>,
     pub ireg: u64,
     pub freg32: f32,
     pub freg64: f64,
@@ -33,48 +32,51 @@ pub struct Moving {
     pub spent: u64,
 }
 
-// After a record: whether the run stopped before it, at which cost, and what is answered.
+// After a record: the cost that the run stopped before, where it did, and what is answered.
+// The answer is its number, as in `Ran`.
 #[derive(Clone, Copy)]
 pub struct Went {
     pub moving: Moving,
-    pub stopped: bool,
-    pub cost: u64,
+    pub stop: Option<u64>,
     pub answer: u64,
     pub offset: u64,
 }
 
-pub(crate) fn fixed_in(run: Run) -> Fixed
-    ensures { result ≡ fixed_in run }
-{
-    let s = run.state;
-    Fixed {
-        depth: s.depth,
-        height: s.height,
-        words: s.words,
-        cells: s.cells,
-        fuel: run.fuel,
+impl From<Run> for Fixed {
+    ghost from_gives = { λ run f. f ≡ fixed_in run };
+
+    fn from(run: Run) -> Fixed {
+        let state = run.state;
+        Fixed {
+            depth: state.depth,
+            height: state.height,
+            words: state.words,
+            cells: state.cells,
+            fuel: run.fuel,
+        }
     }
 }
 
-pub(crate) fn moving_in(run: Run) -> Moving
-    ensures { result ≡ moving_in run }
-{
-    let s = run.state;
-    let current = s.current;
-    let regs = s.regs;
-    Moving {
-        count: s.count,
-        len: s.len,
-        named: is_given(current),
-        current: given_number(current),
-        ireg: regs.ireg,
-        freg32: regs.freg32,
-        freg64: regs.freg64,
-        number: run.number,
-        spent: run.spent,
+impl From<Run> for Moving {
+    ghost from_gives = { λ run m. m ≡ moving_in run };
+
+    fn from(run: Run) -> Moving {
+        let state = run.state;
+        let regs = state.regs;
+        Moving {
+            count: state.count,
+            len: state.len,
+            current: state.current,
+            ireg: regs.ireg,
+            freg32: regs.freg32,
+            freg64: regs.freg64,
+            number: run.number,
+            spent: run.spent,
+        }
     }
 }
 
+// Of two values, the fixed and the moving part: so these three are no From.
 pub(crate) fn state_again(f: Fixed, m: Moving) -> State
     ensures { result ≡ state_again f m }
 {
@@ -90,7 +92,7 @@ pub(crate) fn state_again(f: Fixed, m: Moving) -> State
         cells: f.cells,
         count: m.count,
         len: m.len,
-        current: given_if(m.named, m.current),
+        current: m.current,
         regs,
     }
 }
@@ -104,7 +106,7 @@ pub(crate) fn run_again(f: Fixed, m: Moving) -> Run
         number: m.number,
         fuel: f.fuel,
         spent: m.spent,
-        stop: Given::Absent,
+        stop: None,
     }
 }
 
@@ -114,7 +116,7 @@ pub(crate) fn ran_again(f: Fixed, w: Went) -> Ran
 {
     let m = w.moving;
     let run = Run {
-        stop: given_if(w.stopped, w.cost),
+        stop: w.stop,
         ..run_again(f, m)
     };
     Ran {
@@ -137,35 +139,22 @@ pub(crate) fn went_by(m: Moving, out: Outcome, spent: u64) -> Went
 fn went_on(m: Moving, s: State, spent: u64, answer: u64, offset: usize) -> Went
     ensures { result ≡ went_on_with m s spent answer offset }
 {
-    let current = s.current;
     let regs = s.regs;
     let moving = Moving {
         count: s.count,
         len: s.len,
-        named: is_given(current),
-        current: number_or(current, m.current),
+        current: s.current,
         ireg: regs.ireg,
         freg32: regs.freg32,
         freg64: regs.freg64,
-        number: std::num::wrapping_add_u64(m.number, 1),
+        number: m.number.wrapping_add(1),
         spent,
     };
     Went {
         moving,
-        stopped: false,
-        cost: 0,
+        stop: None,
         answer,
         offset: offset as u64,
-    }
-}
-
-// The number as it was, where there is none now: so nothing is computed where nothing changed.
-fn number_or(g: Given, was: u64) -> u64
-    ensures { result ≡ number_or g was }
-{
-    match g {
-        Given::Absent => was,
-        Given::Value(number) => number,
     }
 }
 
@@ -174,36 +163,25 @@ pub(crate) fn stopped_before(m: Moving, cost: u64) -> Went
 {
     Went {
         moving: m,
-        stopped: true,
-        cost,
+        stop: Some(cost),
         answer: 0,
         offset: 0,
     }
 }
 
 // A refused record costs 1.
+#[tactic(auto, unfolding(crate::specs::Packing::went_refused, choice::specs::Choose::choose))]
 pub(crate) fn refused_at(f: Fixed, m: Moving, number: u64) -> Went
     ensures { result ≡ went_refused f m number }
 {
-    let spent = m.spent;
-    if left_of(f.fuel, spent) < 1 {
+    if f.fuel.saturating_sub(m.spent) < 1 {
         return stopped_before(m, 1);
     }
-    went_on(m, state_again(f, m), spent + 1, number, 0)
+    went_on(m, state_again(f, m), m.spent + 1, number, 0)
 }
 
 pub(crate) fn refused_for(f: Fixed, m: Moving, why: Refusal) -> Went
     ensures { result ≡ went_refused f m (refusal_number why) }
 {
-    refused_at(f, m, refusal_number(why))
-}
-
-// The fuel not spent.
-pub(crate) fn left_of(fuel: u64, spent: u64) -> u64
-    ensures { result ≡ fuel - spent }
-{
-    if fuel < spent {
-        return 0;
-    }
-    fuel - spent
+    refused_at(f, m, u64::from(why))
 }

@@ -5,6 +5,7 @@ mod calls;
 mod cost;
 mod flat;
 mod hosts;
+mod kind;
 mod run;
 mod simple;
 mod trace;

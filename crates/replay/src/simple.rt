@@ -1,130 +1,137 @@
-// Sync, restore, reset and set in a trace, as `calls.rt` has the calls.
-ghost use Rattle.std.specs.Prelude.{◌≡◌};
-ghost use Rattle.replay.specs.Packing.{running_again, went_shown};
-ghost use Rattle.replay.specs.Running.{ran_on};
-ghost use Rattle.replay.specs.ByKind.{entry_for};
+// Sync, restore, reset and set as kinds of a trace.
+#![tactic(auto, unfolding(request::specs::Requests::request_in, choice::specs::Choose::choose))]
+
+ghost use Rattle.rules.specs.declared.Request.TheVariants.{Sync, Restore, Reset, Set};
 
 use crate::cost::ONE;
-use crate::flat::{
-    Fixed, Moving, Went, left_of, refused_at, refused_for, state_again, stopped_before, went_by,
-};
-use record::{BAD_RECORD, RESET_ROW, RESTORE_ROW, Record, SET_ROW, SYNC_ROW, keeps_row};
-use rules::Judgement;
+use crate::kind::Kind;
+use record::{KindRow, RESET_ROW, RESTORE_ROW, Record, SET_ROW, SYNC_ROW};
+use rules::{Outcome, Refusal, Room, State};
 use stack::{
     judge_reset, judge_restore, judge_set, judge_sync, step_reset, step_restore, step_set,
     step_sync,
 };
 
-// ---- sync
+#[derive(Clone, Copy)]
+pub(crate) struct SyncArgs {
+    pub ip: u64,
+}
 
-pub(crate) fn sync_turn(
-    f: Fixed,
-    m: Moving,
-    words: &mut [u64],
-    cells: &mut [u64],
-    r: Record,
-) -> Went
-    requires { r.kind ≡ 6 }
-    ensures { went_shown f result words.new cells.new
-        ≡ ran_on (running_again f m words.old cells.old) (entry_for r) }
-{
-    if !keeps_row(SYNC_ROW, r) {
-        return refused_at(f, m, BAD_RECORD);
+impl Kind for SyncArgs {
+    ghost number = { 6 };
+
+    ghost says = { λ q. Sync q.ip };
+
+    fn row() -> KindRow {
+        SYNC_ROW
     }
-    let s = state_again(f, m);
-    match judge_sync(s, words, cells) {
-        Judgement::Refuse(why) => refused_for(f, m, why),
-        Judgement::Accept(room) => {
-            let spent = m.spent;
-            if left_of(f.fuel, spent) < ONE {
-                return stopped_before(m, ONE);
-            }
-            let total = spent + ONE;
-            went_by(m, step_sync(s, words, cells, r.word1, room), total)
-        }
+
+    fn read(r: Record) -> SyncArgs {
+        SyncArgs { ip: r.word1 }
+    }
+
+    fn judge(self, s: State, words: &[u64], cells: &[u64]) -> Result<Room, Refusal> {
+        judge_sync(s, words, cells)
+    }
+
+    fn cost(self) -> u64 {
+        ONE
+    }
+
+    fn step(self, s: State, words: &mut [u64], cells: &mut [u64], room: Room) -> Outcome {
+        step_sync(s, words, cells, self.ip, room)
     }
 }
 
-// ---- restore
+#[derive(Clone, Copy)]
+pub(crate) struct RestoreArgs;
 
-pub(crate) fn restore_turn(
-    f: Fixed,
-    m: Moving,
-    words: &mut [u64],
-    cells: &mut [u64],
-    r: Record,
-) -> Went
-    requires { r.kind ≡ 7 }
-    ensures { went_shown f result words.new cells.new
-        ≡ ran_on (running_again f m words.old cells.old) (entry_for r) }
-{
-    if !keeps_row(RESTORE_ROW, r) {
-        return refused_at(f, m, BAD_RECORD);
-    }
-    let s = state_again(f, m);
-    match judge_restore(s, words, cells) {
-        Judgement::Refuse(why) => refused_for(f, m, why),
-        Judgement::Accept(room) => {
-            let spent = m.spent;
-            if left_of(f.fuel, spent) < ONE {
-                return stopped_before(m, ONE);
-            }
-            let total = spent + ONE;
-            went_by(m, step_restore(s, words, cells, room), total)
-        }
-    }
-}
+impl Kind for RestoreArgs {
+    ghost number = { 7 };
 
-// ---- reset
+    ghost says = { λ q. Restore };
 
-pub(crate) fn reset_turn(
-    f: Fixed,
-    m: Moving,
-    words: &mut [u64],
-    cells: &mut [u64],
-    r: Record,
-) -> Went
-    requires { r.kind ≡ 8 }
-    ensures { went_shown f result words.new cells.new
-        ≡ ran_on (running_again f m words.old cells.old) (entry_for r) }
-{
-    if !keeps_row(RESET_ROW, r) {
-        return refused_at(f, m, BAD_RECORD);
+    fn row() -> KindRow {
+        RESTORE_ROW
     }
-    let s = state_again(f, m);
-    match judge_reset(s, words, cells) {
-        Judgement::Refuse(why) => refused_for(f, m, why),
-        Judgement::Accept(room) => {
-            let spent = m.spent;
-            if left_of(f.fuel, spent) < ONE {
-                return stopped_before(m, ONE);
-            }
-            let total = spent + ONE;
-            went_by(m, step_reset(s, words, cells), total)
-        }
+
+    fn read(_r: Record) -> RestoreArgs {
+        RestoreArgs
+    }
+
+    fn judge(self, s: State, words: &[u64], cells: &[u64]) -> Result<Room, Refusal> {
+        judge_restore(s, words, cells)
+    }
+
+    fn cost(self) -> u64 {
+        ONE
+    }
+
+    fn step(self, s: State, words: &mut [u64], cells: &mut [u64], room: Room) -> Outcome {
+        step_restore(s, words, cells, room)
     }
 }
 
-// ---- set
+#[derive(Clone, Copy)]
+pub(crate) struct ResetArgs;
 
-pub(crate) fn set_turn(f: Fixed, m: Moving, words: &mut [u64], cells: &mut [u64], r: Record) -> Went
-    requires { r.kind ≡ 9 }
-    ensures { went_shown f result words.new cells.new
-        ≡ ran_on (running_again f m words.old cells.old) (entry_for r) }
-{
-    if !keeps_row(SET_ROW, r) {
-        return refused_at(f, m, BAD_RECORD);
+impl Kind for ResetArgs {
+    ghost number = { 8 };
+
+    ghost says = { λ q. Reset };
+
+    fn row() -> KindRow {
+        RESET_ROW
     }
-    let s = state_again(f, m);
-    match judge_set(s, words, cells, r.head) {
-        Judgement::Refuse(why) => refused_for(f, m, why),
-        Judgement::Accept(room) => {
-            let spent = m.spent;
-            if left_of(f.fuel, spent) < ONE {
-                return stopped_before(m, ONE);
-            }
-            let total = spent + ONE;
-            went_by(m, step_set(s, words, cells, r.word2, room), total)
+
+    fn read(_r: Record) -> ResetArgs {
+        ResetArgs
+    }
+
+    fn judge(self, s: State, words: &[u64], cells: &[u64]) -> Result<Room, Refusal> {
+        judge_reset(s, words, cells)
+    }
+
+    fn cost(self) -> u64 {
+        ONE
+    }
+
+    fn step(self, s: State, words: &mut [u64], cells: &mut [u64], _room: Room) -> Outcome {
+        step_reset(s, words, cells)
+    }
+}
+
+#[derive(Clone, Copy)]
+pub(crate) struct SetArgs {
+    pub head: u16,
+    pub cell: u64,
+}
+
+impl Kind for SetArgs {
+    ghost number = { 9 };
+
+    ghost says = { λ q. Set q.head q.cell };
+
+    fn row() -> KindRow {
+        SET_ROW
+    }
+
+    fn read(r: Record) -> SetArgs {
+        SetArgs {
+            head: r.head,
+            cell: r.word2,
         }
+    }
+
+    fn judge(self, s: State, words: &[u64], cells: &[u64]) -> Result<Room, Refusal> {
+        judge_set(s, words, cells, self.head)
+    }
+
+    fn cost(self) -> u64 {
+        ONE
+    }
+
+    fn step(self, s: State, words: &mut [u64], cells: &mut [u64], room: Room) -> Outcome {
+        step_set(s, words, cells, self.cell, room)
     }
 }

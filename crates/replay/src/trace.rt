@@ -1,15 +1,13 @@
 // Replay over the bytes of a lent trace: the record at a place, and a whole trace.
-ghost use Rattle.std.specs.Prelude.{◌≡◌, ◌+◌, ◌<◌, length};
+ghost use Rattle.std.specs.Prelude.{◌≡◌, ◌<◌, length};
 ghost use Rattle.record.specs.Form.{record_size};
-ghost use Rattle.request.specs.Entries.{entries_left};
 ghost use Rattle.replay.specs.Packing.{running_again};
-ghost use Rattle.replay.specs.Running.{running_of, ran_all, replayed};
+ghost use Rattle.replay.specs.Running.{running_of, replayed};
 ghost use Rattle.replay.specs.Turns.{shown_turn, turn_at};
 
-use crate::flat::{Fixed, Moving, fixed_in, moving_in, ran_again, refused_at, run_again};
+use crate::flat::{Fixed, Moving, ran_again, refused_at, run_again};
 use crate::run::{Ran, Run, nothing_ran};
 use crate::turn::turn;
-use given::is_given;
 use record::{BAD_RECORD, RECORD_SIZE};
 use request::place_after;
 
@@ -32,16 +30,15 @@ pub fn run_next(run: Run, words: &mut [u64], cells: &mut [u64], bytes: &[u8], at
         };
     }
     let next = place_after(bytes, at);
-    let stop = run.stop;
-    if is_given(stop) {
+    if run.stop.is_some() {
         return Turn {
             ran: nothing_ran(run),
             next,
         };
     }
-    let f = fixed_in(run);
+    let f = Fixed::from(run);
     Turn {
-        ran: ran_again(f, turn(f, moving_in(run), words, cells, bytes, at)),
+        ran: ran_again(f, turn(f, Moving::from(run), words, cells, bytes, at)),
         next,
     }
 }
@@ -51,39 +48,30 @@ pub fn replay(run: Run, words: &mut [u64], cells: &mut [u64], bytes: &[u8]) -> R
     ensures { running_of result words.new cells.new
         ≡ replayed (running_of run words.old cells.old) bytes.now }
 {
-    let stop = run.stop;
-    if is_given(stop) {
+    if run.stop.is_some() {
         return run;
     }
-    let f = fixed_in(run);
-    let mut m = moving_in(run);
-    if bytes.len() < RECORD_SIZE {
-        return short_end(f, m, words, cells, bytes, 0);
-    }
-    let last = bytes.len() - RECORD_SIZE;
-    let mut at = 0;
-    while at <= last {
-        let next = at + RECORD_SIZE;
-        let went = turn(f, m, words, cells, bytes, at);
-        if went.stopped {
-            let ran = ran_again(f, went);
-            return ran.run;
+    let f = Fixed::from(run);
+    let mut m = Moving::from(run);
+    let (records, rest) = bytes.as_chunks::<RECORD_SIZE>();
+    for record in records {
+        let went = turn(f, m, words, cells, record, 0);
+        if went.stop.is_some() {
+            return ran_again(f, went).run;
         }
         m = went.moving;
-        at = next;
     }
-    short_end(f, m, words, cells, bytes, at)
+    short_end(f, m, words, cells, rest)
 }
 
 // Behind the whole records: the end, or a short record, which reads badly.
-fn short_end(f: Fixed, m: Moving, words: &[u64], cells: &[u64], bytes: &[u8], at: usize) -> Run
-    requires { length bytes.now < at + record_size }
+fn short_end(f: Fixed, m: Moving, words: &[u64], cells: &[u64], rest: &[u8]) -> Run
+    requires { length rest.now < record_size }
     ensures { running_of result words.now cells.now
-        ≡ ran_all (running_again f m words.now cells.now) (entries_left bytes.now at) }
+        ≡ replayed (running_again f m words.now cells.now) rest.now }
 {
-    if bytes.len() <= at {
+    if rest.is_empty() {
         return run_again(f, m);
     }
-    let ran = ran_again(f, refused_at(f, m, BAD_RECORD));
-    ran.run
+    ran_again(f, refused_at(f, m, BAD_RECORD)).run
 }

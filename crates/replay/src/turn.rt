@@ -5,14 +5,15 @@ ghost use Rattle.replay.specs.ByKind.{entry_for};
 ghost use Rattle.replay.specs.Packing.{running_again, went_shown};
 ghost use Rattle.replay.specs.Running.{ran_on};
 
-use crate::calls::{pop_turn, push_turn, replace_turn};
+use crate::calls::PopArgs;
 use crate::flat::{Fixed, Moving, Went, refused_at};
-use crate::hosts::{host_turn, return_host_turn};
-use crate::simple::{reset_turn, restore_turn, set_turn, sync_turn};
+use crate::kind::run_kind;
+use crate::simple::{ResetArgs, RestoreArgs, SetArgs, SyncArgs};
 use record::{
-    BAD_RECORD, HOST, POP, PUSH, REPLACE, RESET, RESTORE, RETURN_HOST, Read, Record, SET, SYNC,
-    read_fields,
+    BAD_RECORD, BadRecord, HOST, POP, PUSH, REPLACE, RESET, RESTORE, RETURN_HOST, Record, SET,
+    SYNC, read_fields,
 };
+use rules::{HostArgs, PushArgs, ReplaceArgs, ReturnHostArgs};
 
 // The record at a place before the end.
 pub(crate) fn turn(
@@ -28,8 +29,8 @@ pub(crate) fn turn(
         ≡ ran_on (running_again f m words.old cells.old) (entry_at bytes.now at) }
 {
     match read_fields(bytes, at) {
-        Read::Found(r) => kind_turn(f, m, words, cells, r),
-        Read::Bad => refused_at(f, m, BAD_RECORD),
+        Ok(r) => kind_turn(f, m, words, cells, r),
+        Err(BadRecord) => refused_at(f, m, BAD_RECORD),
     }
 }
 
@@ -43,17 +44,16 @@ pub(crate) fn kind_turn(
     ensures { went_shown f result words.new cells.new
         ≡ ran_on (running_again f m words.old cells.old) (entry_for r) }
 {
-    let kind = r.kind;
-    match kind {
-        PUSH => push_turn(f, m, words, cells, r),
-        POP => pop_turn(f, m, words, cells, r),
-        REPLACE => replace_turn(f, m, words, cells, r),
-        HOST => host_turn(f, m, words, cells, r),
-        RETURN_HOST => return_host_turn(f, m, words, cells, r),
-        SYNC => sync_turn(f, m, words, cells, r),
-        RESTORE => restore_turn(f, m, words, cells, r),
-        RESET => reset_turn(f, m, words, cells, r),
-        SET => set_turn(f, m, words, cells, r),
+    match r.kind {
+        PUSH => run_kind::<PushArgs>(f, m, words, cells, r),
+        POP => run_kind::<PopArgs>(f, m, words, cells, r),
+        REPLACE => run_kind::<ReplaceArgs>(f, m, words, cells, r),
+        HOST => run_kind::<HostArgs>(f, m, words, cells, r),
+        RETURN_HOST => run_kind::<ReturnHostArgs>(f, m, words, cells, r),
+        SYNC => run_kind::<SyncArgs>(f, m, words, cells, r),
+        RESTORE => run_kind::<RestoreArgs>(f, m, words, cells, r),
+        RESET => run_kind::<ResetArgs>(f, m, words, cells, r),
+        SET => run_kind::<SetArgs>(f, m, words, cells, r),
         _ => refused_at(f, m, BAD_RECORD),
     }
 }

@@ -2,7 +2,6 @@
 ghost use Rattle.std.specs.Prelude.{◌≡◌};
 ghost use Rattle.request.specs.Requests.{caller_in, instance_in, push_in, replace_in, host_in, return_host_in, request_in};
 
-use given::{Given, given_if};
 use record::{HOST, POP, PUSH, REPLACE, RESET, RESTORE, RETURN_HOST, Record, SYNC};
 use rules::{HostArgs, PushArgs, ReplaceArgs, Request, ReturnHostArgs};
 
@@ -23,6 +22,7 @@ pub(crate) fn request_in(r: Record) -> Request
     }
 }
 
+// No From here: Record and the arguments stand in other crates. Each line names the field that it is read from.
 pub fn push_in(r: Record) -> PushArgs
     ensures { result ≡ push_in r }
 {
@@ -73,14 +73,14 @@ pub fn return_host_in(r: Record) -> ReturnHostArgs
 }
 
 // The caller ip and the instance, where their flags are set.
-fn caller_in(r: Record) -> Given
+fn caller_in(r: Record) -> Option<u64>
     ensures { result ≡ caller_in r }
 {
-    given_if(r.flags % 2 == 1, r.word1)
+    (r.flags % 2 == 1).then_some(r.word1)
 }
 
-fn instance_in(r: Record) -> Given
+fn instance_in(r: Record) -> Option<u64>
     ensures { result ≡ instance_in r }
 {
-    given_if(r.flags / 2 % 2 == 1, r.word3)
+    (r.flags / 2 % 2 == 1).then_some(r.word3)
 }

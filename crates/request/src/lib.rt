@@ -11,46 +11,30 @@ ghost use Rattle.request.specs.Walk.{shown_decoded, decoded, shown_next, next_at
 use decode::request_in;
 pub use decode::{host_in, push_in, replace_in, return_host_in};
 pub use encode::record_of;
-use record::{RECORD_SIZE, Read, Record, Written, is_lawful, read_record, write_record};
+use record::{BadRecord, RECORD_SIZE, Record, is_lawful, read_record, write_record};
 use rules::Request;
 
-#[derive(Clone, Copy)]
-pub enum Decoded {
-    Asks(Request),
-    Bad,
-}
-
-// What stands at a place of a trace: a request, or bytes that are none (10), each with the place of the next; or nothing, at the end.
-#[derive(Clone, Copy)]
-pub enum Next {
-    Asks(Request, usize),
-    Bad(usize),
-    End,
-}
-
 // The request that a record says. Refused (10) where it breaks the rules of its kind.
-pub fn request_of(r: Record) -> Decoded
+pub fn request_of(r: Record) -> Result<Request, BadRecord>
     ensures { shown_decoded result ≡ decoded r }
 {
     if !is_lawful(r) {
-        return Decoded::Bad;
+        return Err(BadRecord);
     }
-    Decoded::Asks(request_in(r))
+    Ok(request_in(r))
 }
 
-// Reads at a place of a trace. A bad record is as long as a good one; a short last one reaches to the end.
-pub fn next_request(bytes: &[u8], at: usize) -> Next
+// What stands at a place of a trace: a request, or bytes that are none (10), each with the place of the next; or nothing, at the end. A bad record is
+// as long as a good one; a short last one reaches to the end.
+// By a place in the bytes, any place (`next_at`): the crate reader has it as an iterator.
+pub fn next_request(bytes: &[u8], at: usize) -> Option<(Result<Request, BadRecord>, usize)>
     ensures { shown_next result ≡ next_at bytes.now at }
 {
     if bytes.len() <= at {
-        return Next::End;
+        return None;
     }
     let next = place_after(bytes, at);
-    let read = read_record(bytes, at);
-    match read {
-        Read::Found(r) => Next::Asks(request_in(r), next),
-        Read::Bad => Next::Bad(next),
-    }
+    Some((read_record(bytes, at).map(request_in), next))
 }
 
 // The place behind the record at a place: 40 bytes on, and no further than the end.
@@ -69,7 +53,7 @@ pub fn place_after(bytes: &[u8], at: usize) -> usize
 
 // Writes a request's record at a place. Refused (10), with no byte changed, where fewer than 40 bytes are left.
 #[tactic(auto, unfolding(crate::specs::Walk::request_written))]
-pub fn write_request(bytes: &mut [u8], at: usize, q: Request) -> Written
+pub fn write_request(bytes: &mut [u8], at: usize, q: Request) -> Result<(), BadRecord>
     ensures { shown_write result bytes.new ≡ request_written bytes.old at q }
 {
     write_record(bytes, at, record_of(q))

@@ -19,3 +19,4 @@ pub mod Cases
 pub mod Limits
 pub mod Reached
 pub mod TailWorlds
+pub mod Settled

@@ -7,6 +7,8 @@
 --     Standing                       what holds of a world since the call; `callee_below` that the newest frame then starts no earlier than the callee
 --     push_stands, effect_stands     a push, over rows that keep it; and whatever is accepted
 --     push_leaves, effect_leaves     the cells before the new start; and those before the newest frame's
+use Rattle.std.specs.Prelude.{Option, None, Some, is_some}
+use Rattle.std.specs.Option.{option_or}
 use mathlib.Core.Path.{◌≡◌, refl, sym, ap, subst, ◌∙◌}
 use mathlib.Core.Bool.{true, false}
 use mathlib.Core.Logic.{inl}
@@ -19,9 +21,6 @@ use borrow.Author.Tests.{ne_eqb, eqb-false}
 use Rattle.choice.specs.Choose.{choose}
 use Rattle.choice.specs.Tests.{Passed}
 use Rattle.choice.proofs.Choices.{chosen_holds, chosen_second}
-use Rattle.given.specs.declared.Given.{Given}
-use Rattle.given.specs.declared.Given.TheVariants.{Absent, Value}
-use Rattle.given.specs.Given.{is_given, given_or_else}
 use Rattle.frames.specs.declared.row.Row.{Row}
 use Rattle.frames.specs.Rows.{RowThere, too_few_words, row_at, put_row, with_ip}
 use Rattle.frames.specs.Debts.{new_row, debt_of}
@@ -60,24 +59,24 @@ module _ (w : World) (passed : broken_top w ≡ false) where
   top_there some = let within = (top_good w passed).count_within in (rows_enough, omega arith)
 
   -- there is room for one more
-  next_there : eqb w.state.count w.state.depth ≡ false → (g : Given) → RowThere w.state.depth (top_ip_stored w g) w.state.count
+  next_there : eqb w.state.count w.state.depth ≡ false → (g : Option ℕ) → RowThere w.state.depth (top_ip_stored w g) w.state.count
   next_there below g =
       let full = eqb-false w.state.count w.state.depth below in
       let within = (top_good w passed).count_within in
       (ap (λ k. too_few_words k w.state.depth) (length_ip_stored w.state.depth w.words w.state.count g) ∙ rows_enough, omega arith)
 
   -- ---- the newest frame's ip
-  pub stored_top : 0 < w.state.count → (ip : ℕ) → row_at w.state.depth (top_ip_stored w (Value ip)) (w.state.count - 1) ≡ with_ip (top_frame w) ip
+  pub stored_top : 0 < w.state.count → (ip : ℕ) → row_at w.state.depth (top_ip_stored w (Some ip)) (w.state.count - 1) ≡ with_ip (top_frame w) ip
   unfolding ip_stored
   stored_top some ip = ip_same w.state.depth w.words (w.state.count - 1) ip (top_there some)
 
-pub stored_below : (w : World) (g : Given) (j : ℕ) → j < w.state.count - 1 → row_at w.state.depth (top_ip_stored w g) j ≡ frame_at w j
+pub stored_below : (w : World) (g : Option ℕ) (j : ℕ) → j < w.state.count - 1 → row_at w.state.depth (top_ip_stored w g) j ≡ frame_at w j
 unfolding ip_stored
-stored_below w Absent j b = refl
-stored_below w (Value ip) j b = ip_other w.state.depth w.words (w.state.count - 1) ip j (λ e. omega arith)
+stored_below w None j b = refl
+stored_below w (Some ip) j b = ip_other w.state.depth w.words (w.state.count - 1) ip j (λ e. omega arith)
 
 -- with more than one frame, the debt of the newest is made good when it goes
-pub debt_made_good : (s : State) (top : Row) → 1 < s.count → instance_after s top ≡ given_or_else (debt_of top) s.current
+pub debt_made_good : (s : State) (top : Row) → 1 < s.count → instance_after s top ≡ option_or (debt_of top) s.current
 unfolding instance_after
 debt_made_good s top more = sym (chosen_second _ _ _ _ (eqb s.count _) (ne_eqb s.count _ (λ e. omega arith)) refl)
 
@@ -92,10 +91,10 @@ module _ (B : ℕ → Row) (i s A : ℕ) where
   -- other words, where the newest row starts where it did and makes good the same, and those below it stay
   anew : (w : World) → Standing w → i < w.state.count → (words : List ℕ)
       → ((j : ℕ) → j < w.state.count - 1 → row_at w.state.depth words j ≡ frame_at w j)
-      → (d : Given)
+      → (d : Option ℕ)
       → (row_at w.state.depth words (w.state.count - 1)).start ≡ (top_frame w).start
-      → is_given d ≡ true
-      → given_or_else (debt_of (row_at w.state.depth words (w.state.count - 1))) d ≡ given_or_else (debt_of (top_frame w)) w.state.current
+      → is_some d ≡ true
+      → option_or (debt_of (row_at w.state.depth words (w.state.count - 1))) d ≡ option_or (debt_of (top_frame w)) w.state.current
       → Since B i s A (row_at w.state.depth words) w.state.count d
   anew w h c words same d start t debt =
       let e : w.state.count ≡ suc (w.state.count - 1) = omega arith in
@@ -107,21 +106,21 @@ module _ (B : ℕ → Row) (i s A : ℕ) where
       t
       debt)
 
-  ip_stands : (w : World) → Standing w → i < w.state.count → broken_top w ≡ false → (g : Given)
+  ip_stands : (w : World) → Standing w → i < w.state.count → broken_top w ≡ false → (g : Option ℕ)
       → Since B i s A (row_at w.state.depth (top_ip_stored w g)) w.state.count w.state.current
   unfolding ip_stored
-  ip_stands w h c passed Absent = h
-  ip_stands w h c passed (Value ip) =
+  ip_stands w h c passed None = h
+  ip_stands w h c passed (Some ip) =
       let top = stored_top w passed (omega arith) ip in
-      anew w h c (top_ip_stored w (Value ip)) (stored_below w (Value ip)) w.state.current
+      anew w h c (top_ip_stored w (Some ip)) (stored_below w (Some ip)) w.state.current
       (ap (λ row. row.start) top)
       h.awake
-      (ap (λ row. given_or_else (debt_of row) w.state.current) top
-      ∙ ap (λ debt. given_or_else debt w.state.current) (ip_debt (top_frame w) ip))
+      (ap (λ row. option_or (debt_of row) w.state.current) top
+      ∙ ap (λ debt. option_or debt w.state.current) (ip_debt (top_frame w) ip))
 
   -- a row made anew in the newest's place, and one put on top
-  row_anew : (w : World) → Standing w → i < w.state.count → broken_top w ≡ false → (ip start : ℕ) (debt d : Given)
-      → start ≡ top_start w → is_given d ≡ true → given_or_else debt d ≡ given_or_else (debt_of (top_frame w)) w.state.current
+  row_anew : (w : World) → Standing w → i < w.state.count → broken_top w ≡ false → (ip start : ℕ) (debt d : Option ℕ)
+      → start ≡ top_start w → is_some d ≡ true → option_or debt d ≡ option_or (debt_of (top_frame w)) w.state.current
       → Since B i s A (row_at w.state.depth (put_row w.state.depth w.words (w.state.count - 1) (new_row ip start debt))) w.state.count d
   row_anew w h c passed ip start debt d same t good =
       let D = w.state.depth in
@@ -132,11 +131,11 @@ module _ (B : ℕ → Row) (i s A : ℕ) where
       d
       (ap (λ row. row.start) top ∙ new_start ip start debt ∙ same ∙ top_start_lem w (omega arith))
       t
-      (ap (λ row. given_or_else (debt_of row) d) top ∙ ap (λ owes. given_or_else owes d) (new_debt ip start debt) ∙ good)
+      (ap (λ row. option_or (debt_of row) d) top ∙ ap (λ owes. option_or owes d) (new_debt ip start debt) ∙ good)
 
-  row_on_top : (D : ℕ) (words : List ℕ) (n : ℕ) (c : Given) → Since B i s A (row_at D words) n c → i ≤ n → RowThere D words n
-      → (ip start : ℕ) (debt d : Given)
-      → s ≤ start → is_given d ≡ true → given_or_else debt d ≡ c
+  row_on_top : (D : ℕ) (words : List ℕ) (n : ℕ) (c : Option ℕ) → Since B i s A (row_at D words) n c → i ≤ n → RowThere D words n
+      → (ip start : ℕ) (debt d : Option ℕ)
+      → s ≤ start → is_some d ≡ true → option_or debt d ≡ c
       → Since B i s A (row_at D (put_row D words n (new_row ip start debt))) (n + 1) d
   row_on_top D words n c h low there ip start debt d late t good =
       let top = row_same D words n (new_row ip start debt) there in
@@ -147,7 +146,7 @@ module _ (B : ℕ → Row) (i s A : ℕ) where
       d
       (rw (top, new_start ip start debt) late)
       t
-      (ap (λ row. given_or_else (debt_of row) d) top ∙ ap (λ owes. given_or_else owes d) (new_debt ip start debt) ∙ good))
+      (ap (λ row. option_or (debt_of row) d) top ∙ ap (λ owes. option_or owes d) (new_debt ip start debt) ∙ good))
 
   pub push_stands : (w : World) (q : PushArgs) → Since B i s A (row_at w.state.depth (top_ip_stored w q.caller)) w.state.count w.state.current
       → i ≤ w.state.count → s ≤ top_start w + q.head → Passed (push_tests w q) → Standing (pushed w q (push_room w q)).world

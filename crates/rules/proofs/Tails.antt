@@ -3,6 +3,8 @@
 --     TailStep w qs v            what follows of a run with the accepted replaces qs, from the world w to v
 --     event_step, run_step       of one event, and of a run
 --     tails_theorem              T-13
+use Rattle.std.specs.Prelude.{Option, None, Some, is_some}
+use Rattle.std.specs.Option.{option_or}
 use mathlib.Core.Path.{◌≡◌, refl, sym, ap, subst, ◌∙◌}
 use mathlib.Core.Bool.{Bool, true, false, not, ◌||◌, true≢false, false≢true}
 use mathlib.Core.Logic.{◌↔◌}
@@ -13,9 +15,6 @@ use lib.Dec.{eqb}
 use borrow.Author.Tests.{lt-ltb, le-ltb, eqb-true, eqb-false}
 use Rattle.choice.specs.Choose.{choose}
 use Rattle.choice.specs.Tests.{Passed}
-use Rattle.given.specs.declared.Given.{Given}
-use Rattle.given.specs.declared.Given.TheVariants.{Absent, Value}
-use Rattle.given.specs.Given.{is_given, given_or_else}
 use Rattle.regs.specs.declared.registers.Registers.{Registers}
 use Rattle.frames.specs.declared.row.Row.{Row}
 use Rattle.frames.specs.Debts.{debt_of, owing_of, carried_of}
@@ -44,28 +43,28 @@ use Rattle.rules.proofs.Unwinding.{given_either}
 use Rattle.rules.proofs.Standing.{top_start_lem, top_there, stored_top, stored_below, debt_made_good}
 
 -- ---- the debt and the current instance
-data DebtIs (A : ℕ) : (other : Bool) (debt current : Given) → Type 0 where
-  none_owed : DebtIs A false Absent (Value A)
-  one_owed : (c : Given) → is_given c ≡ true → DebtIs A true (Value A) c
+data DebtIs (A : ℕ) : (other : Bool) (debt current : Option ℕ) → Type 0 where
+  none_owed : DebtIs A false None (Some A)
+  one_owed : (c : Option ℕ) → is_some c ≡ true → DebtIs A true (Some A) c
 
 abbrev TailState : (A : ℕ) (other : Bool) → World → Type 0
 TailState A other w = DebtIs A other (debt_of (top_frame w)) w.state.current
 
-debt_same : {A : ℕ} {other : Bool} {debt c d e : Given} → d ≡ debt → e ≡ c → DebtIs A other debt c → DebtIs A other d e
+debt_same : {A : ℕ} {other : Bool} {debt c d e : Option ℕ} → d ≡ debt → e ≡ c → DebtIs A other debt c → DebtIs A other d e
 debt_same {A} {other} {debt} {c} {d} {e} p q s = subst (λ g. DebtIs A other d g) (sym q) (subst (λ g. DebtIs A other g c) (sym p) s)
 
 -- a replace that names an instance, or none
-debt_carried : {A : ℕ} {other : Bool} {debt c : Given} → DebtIs A other debt c → (named : Given)
-    → DebtIs A (other || names_other A named) (carried_of debt c named) (given_or_else named c)
+debt_carried : {A : ℕ} {other : Bool} {debt c : Option ℕ} → DebtIs A other debt c → (named : Option ℕ)
+    → DebtIs A (other || names_other A named) (carried_of debt c named) (option_or named c)
 debt_carried {A} (one_owed c t) named = debt_same (carried_kept c named A) refl (one_owed _ (given_either named c t))
-debt_carried {A} none_owed Absent = debt_same (carried_none (Value A) Absent ∙ owing_unnamed (Value A)) refl none_owed
-debt_carried {A} none_owed (Value B) = by (eqb A B) refl
+debt_carried {A} none_owed None = debt_same (carried_none (Some A) None ∙ owing_unnamed (Some A)) refl none_owed
+debt_carried {A} none_owed (Some B) = by (eqb A B) refl
   where
-    by : (t : Bool) → eqb A B ≡ t → DebtIs A (not t) (carried_of Absent (Value A) (Value B)) (Value B)
+    by : (t : Bool) → eqb A B ≡ t → DebtIs A (not t) (carried_of None (Some A) (Some B)) (Some B)
     by true e =
         let same : B ≡ A = sym (eqb-true A B e) in
-        debt_same (carried_none (Value A) (Value B) ∙ ap (λ n. owing_of (Value A) (Value n)) same ∙ owing_same A) (ap Value same) none_owed
-    by false e = debt_same (carried_none (Value A) (Value B) ∙ owing_other A B (eqb-false A B e)) refl (one_owed (Value B) refl)
+        debt_same (carried_none (Some A) (Some B) ∙ ap (λ n. owing_of (Some A) (Some n)) same ∙ owing_same A) (ap Some same) none_owed
+    by false e = debt_same (carried_none (Some A) (Some B) ∙ owing_other A B (eqb-false A B e)) refl (one_owed (Some B) refl)
 
 alone : (b : Bool) → b ≡ (b || false)
 alone true = refl
@@ -146,7 +145,7 @@ module _ (w : World) where
       let top = stored_top w p.0 some ip in
       unmoved w _ refl
       (top_start_lem (effect_of w (Traced (Sync ip))).world some ∙ ap (λ (x : Row). x.start) top ∙ sym (top_start_lem w some))
-      (stored_below w (Value ip))
+      (stored_below w (Some ip))
       refl
       (ap debt_of top ∙ ip_debt (top_frame w) ip)
       refl
@@ -237,20 +236,20 @@ run_step w [] all = none_step w
 run_step w (e ∷ es) all = step_then w _ (stepped_by w e) _ _ (event_step w e all.0) (run_step (stepped_by w e) es all.1)
 
 -- ---- the debt, and one return
-empty_then : {A : ℕ} {other : Bool} {debt c : Given} → DebtIs A other debt c → debt ≡ Absent ↔ other ≡ false
+empty_then : {A : ℕ} {other : Bool} {debt c : Option ℕ} → DebtIs A other debt c → debt ≡ None ↔ other ≡ false
 empty_then none_owed = (λ e. refl, λ e. refl)
-empty_then (one_owed c t) = (λ e. absurd (true≢false (ap is_given e)), λ e. absurd (true≢false e))
+empty_then (one_owed c t) = (λ e. absurd (true≢false (ap is_some e)), λ e. absurd (true≢false e))
 
-owed_then : {A : ℕ} {other : Bool} {debt c : Given} → DebtIs A other debt c → debt ≡ Value A ↔ other ≡ true
-owed_then none_owed = (λ e. absurd (false≢true (ap is_given e)), λ e. absurd (false≢true e))
+owed_then : {A : ℕ} {other : Bool} {debt c : Option ℕ} → DebtIs A other debt c → debt ≡ Some A ↔ other ≡ true
+owed_then none_owed = (λ e. absurd (false≢true (ap is_some e)), λ e. absurd (false≢true e))
 owed_then (one_owed c t) = (λ e. refl, λ e. refl)
 
-made_good : {A : ℕ} {other : Bool} {debt c : Given} → DebtIs A other debt c → given_or_else debt c ≡ Value A
+made_good : {A : ℕ} {other : Bool} {debt c : Option ℕ} → DebtIs A other debt c → option_or debt c ≡ Some A
 made_good none_owed = refl
 made_good (one_owed c t) = refl
 
 left_current : (v : World) (r : Request) (i : ℕ) → Gives r i → 1 < v.state.count
-    → (effect_of v (Traced r)).world.state.current ≡ given_or_else (debt_of (top_frame v)) v.state.current
+    → (effect_of v (Traced r)).world.state.current ≡ option_or (debt_of (top_frame v)) v.state.current
 unfolding popped returned_host
 left_current v (Pop instance) i (by_pop j) more = debt_made_good v.state (top_frame v) more
 left_current v (ReturnHost q) i (by_host u) more = debt_made_good v.state (top_frame v) more

@@ -5,8 +5,7 @@
 --     SoundPinned       what a sound world is
 --     TailsPinned, DebtPinned       all that follows of a run of tail calls, and of its debt
 --     NothingOwedPinned             all that the debt's part assumes
-use Rattle.std.specs.Prelude.{◌≡◌, true, false, ◌↔◌, List, ℕ, ◌-◌, ◌<◌}
-use Rattle.given.specs.declared.Given.TheVariants.{Absent, Value}
+use Rattle.std.specs.Prelude.{◌≡◌, true, false, ◌↔◌, List, ℕ, ◌-◌, ◌<◌, None, Some}
 use Rattle.frames.specs.Rows.{with_ip, broken_row}
 use Rattle.frames.specs.Debts.{debt_of}
 use Rattle.rules.specs.declared.PushArgs.{PushArgs}
@@ -27,20 +26,20 @@ ResumedPinned =
     (w : World) (A p s : ℕ) (es : List Event) (v : World) (i : ℕ) (t : After) → CallerResumed w A p s es v i t
     ↔ (((j : ℕ) → j < w.state.count - 1 → frame_at t.world j ≡ frame_at w j)
     × (frame_at t.world (w.state.count - 1) ≡ with_ip (top_frame w) p)
-    × (t.world.state.current ≡ Value A)
+    × (t.world.state.current ≡ Some A)
     × (t.shown.number ≡ 0)
     × (t.shown.values.ip ≡ p)
     × (t.shown.values.offset ≡ top_start w)
-    × ((d : ℕ) → debt_of (top_frame v) ≡ Value d → t.shown.values.instance ≡ A)
+    × ((d : ℕ) → debt_of (top_frame v) ≡ Some d → t.shown.values.instance ≡ A)
     × (i ≡ A → t.shown.values.instance ≡ A)
-    × (v.state.current ≡ Value i → t.shown.values.instance ≡ A)
+    × (v.state.current ≡ Some i → t.shown.values.instance ≡ A)
     × ((k : ℕ) → k < s → Unwritten k es → cell_at t.world k ≡ cell_at w k))
 
 abbrev pub CalledPinned : Type 0
 CalledPinned =
     (w : World) (A : ℕ) (q : PushArgs) (es : List Event) (r : Request) (i : ℕ) → CalledAndReturned w A q es r i
     ↔ ((0 < w.state.count)
-    × (w.state.current ≡ Value A)
+    × (w.state.current ≡ Some A)
     × Accepted (the_call w q)
     × NeverBelow (after_call w q).state.count (after_call w q) es
     × Gives r i
@@ -64,14 +63,14 @@ TailsPinned =
 abbrev pub NothingOwedPinned : Type 0
 NothingOwedPinned =
     (w : World) (A : ℕ) → NothingOwed w A
-    ↔ ((debt_of (top_frame w) ≡ Absent)
-    × (w.state.current ≡ Value A))
+    ↔ ((debt_of (top_frame w) ≡ None)
+    × (w.state.current ≡ Some A))
 
 abbrev pub DebtPinned : Type 0
 DebtPinned =
     (w : World) (A : ℕ) (qs : List ReplaceArgs) (v : World) → DebtKept w A qs v
-    ↔ ((debt_of (top_frame v) ≡ Absent ↔ other_named A qs ≡ false)
-    × (debt_of (top_frame v) ≡ Value A ↔ other_named A qs ≡ true)
-    × (other_named A qs ≡ true → (fs : List Event) → AllTails fs → debt_of (top_frame (ran_through v fs)) ≡ Value A)
+    ↔ ((debt_of (top_frame v) ≡ None ↔ other_named A qs ≡ false)
+    × (debt_of (top_frame v) ≡ Some A ↔ other_named A qs ≡ true)
+    × (other_named A qs ≡ true → (fs : List Event) → AllTails fs → debt_of (top_frame (ran_through v fs)) ≡ Some A)
     × (1 < w.state.count → (r : Request) (i : ℕ) → Gives r i → Accepted (answered v (Traced r))
-    → (answered v (Traced r)).world.state.current ≡ Value A))
+    → (answered v (Traced r)).world.state.current ≡ Some A))

@@ -2,8 +2,7 @@
 --     tail_world, tail_events     the example: all that is assumed, and events of every sort
 --     tail_lines                 what is seen of it, from the first event to the return
 --     tails_without_instance, tails_over_debt, tails_without_caller      the limits
-use Rattle.std.specs.Prelude.{List, [], ◌∷◌, ℕ, take}
-use Rattle.given.specs.declared.Given.TheVariants.{Absent, Value}
+use Rattle.std.specs.Prelude.{List, [], ◌∷◌, ℕ, take, None, Some}
 use Rattle.rules.specs.declared.Request.{Request}
 use Rattle.rules.specs.declared.Request.TheVariants.{Pop, Sync, Restore, Set}
 use Rattle.rules.specs.declared.Asked.TheVariants.{Traced, SyncRegs}
@@ -22,7 +21,7 @@ abbrev pub tail_world : World
 tail_world = edge_world (push_p ∷ push_over 2 3 ∷ [])
 
 abbrev pub tail_to : (slots instance : ℕ) → Request
-tail_to s n = replace_by 0 0 0 s (Value n)
+tail_to s n = replace_by 0 0 0 s (Some n)
 
 -- Three tail calls that name 1, 2 and 1; one beyond M and L that names 3, and is refused; and events of every other sort between them.
 abbrev pub tail_events : List Event
@@ -81,7 +80,7 @@ tail_lines =
 -- Seen: the debt and the current instance at the start, and after each of the two; the current instance after the return.
 unfoldable pub tails_without_instance : List Case
 tails_without_instance =
-    (let w = edge_world (first_push Absent ∷ push_over 2 3 ∷ []) in
+    (let w = edge_world (first_push None ∷ push_over 2 3 ∷ []) in
     instances_seen w ⊳ (0 ∷ 0 ∷ 0 ∷ 0 ∷ [])
     ∷ instances_seen (after_all w (tail_to 4 1 ∷ [])) ⊳ (0 ∷ 0 ∷ 1 ∷ 1 ∷ [])
     ∷ instances_seen (after_all w (tail_to 4 1 ∷ tail_to 4 2 ∷ [])) ⊳ (1 ∷ 1 ∷ 1 ∷ 2 ∷ [])

@@ -9,10 +9,8 @@
 --     DebtKept w A qs v              what follows then
 --     TailsFollow w es v             both, of the events es
 -- One statement, TailsTheorem. No world is assumed to be sound, nor to have a frame.
-use Rattle.std.specs.Prelude.{◌≡◌, Bool, true, false, not, ◌||◌, ◌↔◌, List, [], ◌∷◌, ◌++◌, ℕ, ◌+◌, ◌-◌, max, ◌<◌, ltb, eqb}
+use Rattle.std.specs.Prelude.{◌≡◌, Bool, true, false, not, ◌||◌, ◌↔◌, List, [], ◌∷◌, ◌++◌, ℕ, ◌+◌, ◌-◌, max, ◌<◌, ltb, eqb, Option, None, Some}
 use Rattle.choice.specs.Choose.{choose}
-use Rattle.given.specs.declared.Given.{Given}
-use Rattle.given.specs.declared.Given.TheVariants.{Absent, Value}
 use Rattle.regs.specs.declared.registers.Registers.{Registers}
 use Rattle.frames.specs.Debts.{debt_of}
 use Rattle.rules.specs.declared.ReplaceArgs.{ReplaceArgs}
@@ -83,9 +81,9 @@ greatest n (m ∷ ms) = greatest (max n m) ms
 
 -- ---- the debt
 
-abbrev pub names_other : (A : ℕ) → (named : Given) → Bool
-names_other A Absent = false
-names_other A (Value B) = not (eqb A B)
+abbrev pub names_other : (A : ℕ) → (named : Option ℕ) → Bool
+names_other A None = false
+names_other A (Some B) = not (eqb A B)
 
 unfoldable pub other_named : (A : ℕ) → List ReplaceArgs → Bool
 other_named A [] = false
@@ -105,19 +103,19 @@ pub record TailsKept (w : World) (qs : List ReplaceArgs) (v : World) : Type 0 wh
 
 -- the frame's debt is empty, and there is a current instance A
 pub record NothingOwed (w : World) (A : ℕ) : Type 0 where
-  pub no_debt : debt_of (top_frame w) ≡ Absent
-  pub has_instance : w.state.current ≡ Value A
+  pub no_debt : debt_of (top_frame w) ≡ None
+  pub has_instance : w.state.current ≡ Some A
 
 pub record DebtKept (w : World) (A : ℕ) (qs : List ReplaceArgs) (v : World) : Type 0 where
   -- the debt is empty exactly while no accepted replace has named an instance other than A
-  pub empty_while : debt_of (top_frame v) ≡ Absent ↔ other_named A qs ≡ false
+  pub empty_while : debt_of (top_frame v) ≡ None ↔ other_named A qs ≡ false
   -- and A exactly since one has
-  pub owed_since : debt_of (top_frame v) ≡ Value A ↔ other_named A qs ≡ true
+  pub owed_since : debt_of (top_frame v) ≡ Some A ↔ other_named A qs ≡ true
   -- from then on: whatever such events follow, also a replace that names A again
-  pub owed_on : other_named A qs ≡ true → (fs : List Event) → AllTails fs → debt_of (top_frame (ran_through v fs)) ≡ Value A
+  pub owed_on : other_named A qs ≡ true → (fs : List Event) → AllTails fs → debt_of (top_frame (ran_through v fs)) ≡ Some A
   -- one accepted return then makes A current, if a caller's frame exists
   pub return_restores : 1 < w.state.count → (r : Request) (i : ℕ) → Gives r i → Accepted (answered v (Traced r))
-      → (answered v (Traced r)).world.state.current ≡ Value A
+      → (answered v (Traced r)).world.state.current ≡ Some A
 
 -- ---- both, of the events es
 

@@ -13,10 +13,11 @@ pub(crate) const MAX_DEPTH: usize = 65_536;
 pub(crate) const MAX_CELLS: usize = 1_048_576;
 
 // The place of the `k`-th newest of `count` frames, 0 where there are not so many.
+// 0 for none is what `from_top` of World says, and `newest_start` below.
 pub fn from_top(count: usize, k: usize) -> usize
     ensures { result ≡ from_top count k }
 {
-    if count < k { 0 } else { count - k }
+    count.saturating_sub(k)
 }
 
 // Whether the state is broken (9): a limit, a length, or what it says of the lent buffers. Where the lengths agree, those of the buffers stand for the

@@ -1,5 +1,5 @@
 // What calls and hosts share: two causes of refusal, and the return ('pop as above').
-ghost use Rattle.std.specs.Prelude.{◌≡◌};
+ghost use Rattle.std.specs.Prelude.{◌≡◌, Ok};
 ghost use Rattle.frames.specs.Rows.{row_at};
 ghost use Rattle.rules.specs.World.{world_of, from_top};
 ghost use Rattle.rules.specs.Answers.{shown_answer, shown_outcome};
@@ -10,19 +10,19 @@ use crate::answer::moved_state;
 use crate::look::from_top;
 use cells::HostFrame;
 use frames::{Row, debt_of, read_row};
-use given::{Given, given_number, is_given, or_else};
 use regs::Registers;
-use rules::{Answer, Outcome, Room, State, Values};
+use rules::{Outcome, Reply, Room, State, Values};
 
 // Whether a caller's ip is given without a frame to store it in.
-pub fn is_stray_ip(count: usize, caller: Given) -> bool
+pub fn is_stray_ip(count: usize, caller: Option<u64>) -> bool
     ensures { result ≡ stray_ip count caller }
 {
-    is_given(caller) & (count == 0)
+    caller.is_some() & (count == 0)
 }
 
 // Whether the parameters end beyond `len`, where the request has cells to look for; with params 0 too. Note: replace asks it of the new `len`,
 // return-host of the one before growth.
+// The flag is that of `beyond_len`.
 pub fn is_beyond(some: bool, len: usize, end: usize) -> bool
     ensures { result ≡ beyond_len some len end }
 {
@@ -46,7 +46,7 @@ pub fn step_return(
     let count = s.count;
     let top = read_row(words, depth, from_top(count, 1));
     Outcome {
-        answer: returned_to(words, depth, count, top, instance, host),
+        answer: Ok(returned_to(words, depth, count, top, instance, host)),
         state: moved_state(s, room.count, instance_after(s, top), room.len),
     }
 }
@@ -60,25 +60,25 @@ fn returned_to(
     top: Row,
     instance: u64,
     host: HostFrame,
-) -> Answer
-    ensures { shown_answer result ≡ returned_to count top (row_at depth words.now (from_top count 2)) instance host }
+) -> Reply
+    ensures { shown_answer (Ok result) ≡ returned_to count top (row_at depth words.now (from_top count 2)) instance host }
 {
     if count == 1 {
-        return Answer::Gone(host);
+        return Reply::Gone(host);
     }
     let next = read_row(words, depth, from_top(count, 2));
-    let woken = or_else(debt_of(top), Given::Value(instance));
-    Answer::Done(Values {
+    let woken = debt_of(top).or(Some(instance));
+    Reply::Done(Values {
         offset: next.start as usize,
         ip: next.ip,
-        instance: given_number(woken),
+        instance: woken.unwrap_or(0),
         host,
         regs: Registers::zeroed(),
     })
 }
 
 // The current instance once the top frame is gone: its debt where it has one. With the last frame the debt is forgotten.
-fn instance_after(s: State, top: Row) -> Given
+fn instance_after(s: State, top: Row) -> Option<u64>
     ensures { result ≡ instance_after s top }
 {
     let frames = s.count;
@@ -86,5 +86,5 @@ fn instance_after(s: State, top: Row) -> Given
     if frames == 1 {
         return current;
     }
-    or_else(debt_of(top), current)
+    debt_of(top).or(current)
 }

@@ -7,11 +7,11 @@ ghost use Rattle.rules.specs.Answers.{shown_judgement, judged, shown_outcome};
 ghost use Rattle.rules.specs.Returns.{pop_tests, pop_room, popped};
 ghost use Rattle.rules.specs.Rules.{answered};
 
-use rules::{Judgement, Outcome, Refusal, Room, State};
+use rules::{Outcome, Refusal, Room, State};
 use stack::{is_broken_next, no_host, refused, step_return, top_start};
 
 // Whether a pop is refused: 9, 4.
-pub fn judge_pop(s: State, words: &[u64], cells: &[u64]) -> Judgement
+pub fn judge_pop(s: State, words: &[u64], cells: &[u64]) -> Result<Room, Refusal>
     ensures { shown_judgement result
         ≡ judged (pop_tests (world_of s words.now cells.now)) (pop_room (world_of s words.now cells.now)) }
 {
@@ -19,13 +19,13 @@ pub fn judge_pop(s: State, words: &[u64], cells: &[u64]) -> Judgement
     let count = s.count;
     let len = s.len;
     if is_broken_next(s, words, cells) {
-        return Judgement::Refuse(Refusal::Broken);
+        return Err(Refusal::Broken);
     }
     if count == 0 {
-        return Judgement::Refuse(Refusal::NoFrame);
+        return Err(Refusal::NoFrame);
     }
     let start = top_start(words, depth, count);
-    Judgement::Accept(Room {
+    Ok(Room {
         start,
         end: start,
         len,
@@ -39,8 +39,8 @@ pub fn pop_frame(s: State, words: &[u64], cells: &[u64], instance: u64) -> Outco
         ≡ answered (world_of s words.now cells.now) (Traced (Pop instance)) }
 {
     match judge_pop(s, words, cells) {
-        Judgement::Refuse(why) => refused(s, why),
-        Judgement::Accept(room) => step_pop(s, words, cells, instance, room),
+        Err(why) => refused(s, why),
+        Ok(room) => step_pop(s, words, cells, instance, room),
     }
 }
 

@@ -12,14 +12,13 @@ ghost use Rattle.rules.specs.Shared.{growth_tests, grown_to, bad_counts};
 ghost use Rattle.rules.specs.Rules.{answered};
 
 use frames::{new_row, owing, write_row};
-use given::{Given, is_given, or_else};
-use rules::{Judgement, Outcome, PushArgs, Refusal, Room, State};
+use rules::{Outcome, PushArgs, Refusal, Room, State};
 use stack::{
     at_offset, is_broken_top, is_stray_ip, judge_growth, moved_state, refused, store_ip, top_start,
 };
 
 // Whether a push is refused: 9, 2 (depth), 4 or 6, 5, 2, 3.
-pub fn judge_push(s: State, words: &[u64], cells: &[u64], q: PushArgs) -> Judgement
+pub fn judge_push(s: State, words: &[u64], cells: &[u64], q: PushArgs) -> Result<Room, Refusal>
     ensures { shown_judgement result
         ≡ judged (push_tests (world_of s words.now cells.now) q) (push_room (world_of s words.now cells.now) q) }
 {
@@ -29,33 +28,39 @@ pub fn judge_push(s: State, words: &[u64], cells: &[u64], q: PushArgs) -> Judgem
     let head = q.head;
     let slots = q.slots;
     if is_broken_top(s, words, cells) {
-        return Judgement::Refuse(Refusal::Broken);
+        return Err(Refusal::Broken);
     }
     let start = top_start(words, depth, count) + head as usize;
     let end = start + slots as usize;
     let more = count + 1;
     // the count is at most the limit: asked so, the compiler knows that the new row is there
     if depth <= count {
-        return Judgement::Refuse(Refusal::Overflow);
+        return Err(Refusal::Overflow);
     }
     if is_stray_ip(count, caller) {
-        return Judgement::Refuse(Refusal::NoFrame);
+        return Err(Refusal::NoFrame);
     }
     if is_missing_ip(count, caller) {
-        return Judgement::Refuse(Refusal::NoCallerIp);
+        return Err(Refusal::NoCallerIp);
     }
     judge_counts(s, q, start, end, more)
 }
 
 // The rest of it: 5, 2, 3.
-fn judge_counts(s: State, q: PushArgs, start: usize, end: usize, count: usize) -> Judgement
+fn judge_counts(
+    s: State,
+    q: PushArgs,
+    start: usize,
+    end: usize,
+    count: usize,
+) -> Result<Room, Refusal>
     ensures { shown_judgement result
         ≡ judged (bad_counts q.params q.locals q.slots gives 5 ∷ head_of_none q.head q.slots gives 5 ∷ growth_tests s (ltb 0 q.slots) end)
         (room_of start end (grown_to s (ltb 0 q.slots) end) count) }
 {
     let slots = q.slots;
     if are_bad_counts(q.params, q.locals, slots) {
-        return Judgement::Refuse(Refusal::BadCounts);
+        return Err(Refusal::BadCounts);
     }
     if slots == 0 {
         return judge_none(s, q.head, start, end, count);
@@ -64,21 +69,21 @@ fn judge_counts(s: State, q: PushArgs, start: usize, end: usize, count: usize) -
 }
 
 // Of a frame without slots: 5 where it has a head. It does not grow.
-fn judge_none(s: State, head: u16, start: usize, end: usize, count: usize) -> Judgement
+fn judge_none(s: State, head: u16, start: usize, end: usize, count: usize) -> Result<Room, Refusal>
     ensures { shown_judgement result
         ≡ judged (head_of_none head 0 gives 5 ∷ growth_tests s false end) (room_of start end (grown_to s false end) count) }
 {
     if head != 0 {
-        return Judgement::Refuse(Refusal::BadCounts);
+        return Err(Refusal::BadCounts);
     }
     judge_growth(s, false, start, end, count)
 }
 
 // Whether no caller's ip is given over a frame.
-fn is_missing_ip(count: usize, caller: Given) -> bool
+fn is_missing_ip(count: usize, caller: Option<u64>) -> bool
     ensures { result ≡ missing_ip count caller }
 {
-    !is_given(caller) & (count != 0)
+    !caller.is_some() & (count != 0)
 }
 
 // Whether the counts are not in order: params ≤ locals ≤ slots.
@@ -94,8 +99,8 @@ pub fn push_frame(s: State, words: &mut [u64], cells: &mut [u64], q: PushArgs) -
         ≡ answered (world_of s words.old cells.old) (Traced (Push q)) }
 {
     match judge_push(s, words, cells, q) {
-        Judgement::Refuse(why) => refused(s, why),
-        Judgement::Accept(room) => step_push(s, words, cells, q, room),
+        Err(why) => refused(s, why),
+        Ok(room) => step_push(s, words, cells, q, room),
     }
 }
 
@@ -119,8 +124,8 @@ pub fn step_push(s: State, words: &mut [u64], cells: &mut [u64], q: PushArgs, ro
     );
     push_cells(cells, q.slots, s.len, next, start, q.params, q.locals);
     Outcome {
-        answer: at_offset(start),
-        state: moved_state(s, room.count, or_else(named, current), next),
+        answer: Ok(at_offset(start)),
+        state: moved_state(s, room.count, named.or(current), next),
     }
 }
 

@@ -13,14 +13,18 @@ ghost use Rattle.rules.specs.Rules.{answered};
 
 use crate::pushing::are_bad_counts;
 use frames::{carried, debt_of, new_row, read_row, write_row};
-use given::or_else;
-use rules::{Judgement, Outcome, Refusal, ReplaceArgs, Room, State};
+use rules::{Outcome, Refusal, ReplaceArgs, Room, State};
 use stack::{
     at_offset, from_top, is_beyond, is_broken_top, judge_growth, moved_state, refused, top_start,
 };
 
 // Whether a replace is refused: 9, 4, 5, 2, 3, 7.
-pub fn judge_replace(s: State, words: &[u64], cells: &[u64], q: ReplaceArgs) -> Judgement
+pub fn judge_replace(
+    s: State,
+    words: &[u64],
+    cells: &[u64],
+    q: ReplaceArgs,
+) -> Result<Room, Refusal>
     ensures { shown_judgement result
         ≡ judged (replace_tests (world_of s words.now cells.now) q) (replace_room (world_of s words.now cells.now) q) }
 {
@@ -30,42 +34,42 @@ pub fn judge_replace(s: State, words: &[u64], cells: &[u64], q: ReplaceArgs) -> 
     let params = q.params;
     let slots = q.slots;
     if is_broken_top(s, words, cells) {
-        return Judgement::Refuse(Refusal::Broken);
+        return Err(Refusal::Broken);
     }
     let start = top_start(words, depth, count);
     let end = start + slots as usize;
     let far = start + head as usize + params as usize;
     if count == 0 {
-        return Judgement::Refuse(Refusal::NoFrame);
+        return Err(Refusal::NoFrame);
     }
     if are_bad_counts(params, q.locals, slots) {
-        return Judgement::Refuse(Refusal::BadCounts);
+        return Err(Refusal::BadCounts);
     }
     judge_params(s, 0 < slots, start, end, far)
 }
 
 // Growth, and then 7: the parameters, which end at `far`, are looked for within the new `len`.
-fn judge_params(s: State, some: bool, start: usize, end: usize, far: usize) -> Judgement
+fn judge_params(s: State, some: bool, start: usize, end: usize, far: usize) -> Result<Room, Refusal>
     ensures { shown_judgement result
         ≡ judged (growth_tests s some end ++ (beyond_len some (grown_to s some end) far gives 7 ∷ [])) (room_of start end (grown_to s some end) s.count) }
 {
     let count = s.count;
     match judge_growth(s, some, start, end, count) {
-        Judgement::Refuse(why) => Judgement::Refuse(why),
-        Judgement::Accept(room) => {
+        Err(why) => Err(why),
+        Ok(room) => {
             let len = room.len;
             judge_far(some, len, room, far)
         }
     }
 }
 
-fn judge_far(some: bool, len: usize, room: Room, far: usize) -> Judgement
+fn judge_far(some: bool, len: usize, room: Room, far: usize) -> Result<Room, Refusal>
     ensures { shown_judgement result ≡ judged (beyond_len some len far gives 7 ∷ []) room }
 {
     if is_beyond(some, len, far) {
-        return Judgement::Refuse(Refusal::BeyondLen);
+        return Err(Refusal::BeyondLen);
     }
-    Judgement::Accept(room)
+    Ok(room)
 }
 
 // Calls in place of the newest frame: the offset is its start.
@@ -74,8 +78,8 @@ pub fn replace_frame(s: State, words: &mut [u64], cells: &mut [u64], q: ReplaceA
         ≡ answered (world_of s words.old cells.old) (Traced (Replace q)) }
 {
     match judge_replace(s, words, cells, q) {
-        Judgement::Refuse(why) => refused(s, why),
-        Judgement::Accept(room) => step_replace(s, words, cells, q, room),
+        Err(why) => refused(s, why),
+        Ok(room) => step_replace(s, words, cells, q, room),
     }
 }
 
@@ -106,8 +110,8 @@ pub fn step_replace(
         cells, q.slots, s.len, next, start, q.head, q.params, q.locals,
     );
     Outcome {
-        answer: at_offset(start),
-        state: moved_state(s, room.count, or_else(named, current), next),
+        answer: Ok(at_offset(start)),
+        state: moved_state(s, room.count, named.or(current), next),
     }
 }
 

@@ -10,11 +10,16 @@ ghost use Rattle.rules.specs.Hosts.{is_sized, return_host_tests, return_host_roo
 ghost use Rattle.rules.specs.Rules.{answered};
 
 use cells::{HostFrame, host_size};
-use rules::{Judgement, Outcome, Refusal, ReturnHostArgs, Room, State};
+use rules::{Outcome, Refusal, ReturnHostArgs, Room, State};
 use stack::{is_beyond, is_broken_next, judge_growth, no_host, refused, step_return, top_start};
 
 // Whether a return-host is refused: 9, 4, 7, 2, 3. Note: 7 looks at `len` before growth, where replace looks at it after.
-pub fn judge_return_host(s: State, words: &[u64], cells: &[u64], q: ReturnHostArgs) -> Judgement
+pub fn judge_return_host(
+    s: State,
+    words: &[u64],
+    cells: &[u64],
+    q: ReturnHostArgs,
+) -> Result<Room, Refusal>
     ensures { shown_judgement result
         ≡ judged (return_host_tests (world_of s words.now cells.now) q) (return_host_room (world_of s words.now cells.now) q) }
 {
@@ -25,7 +30,7 @@ pub fn judge_return_host(s: State, words: &[u64], cells: &[u64], q: ReturnHostAr
     let params = q.params;
     let results = q.results;
     if is_broken_next(s, words, cells) {
-        return Judgement::Refuse(Refusal::Broken);
+        return Err(Refusal::Broken);
     }
     let size = host_size(params, results);
     let some = is_sized(params, results);
@@ -33,10 +38,10 @@ pub fn judge_return_host(s: State, words: &[u64], cells: &[u64], q: ReturnHostAr
     let end = start + size;
     let far = start + head as usize + params as usize;
     if count == 0 {
-        return Judgement::Refuse(Refusal::NoFrame);
+        return Err(Refusal::NoFrame);
     }
     if is_beyond(some, len, far) {
-        return Judgement::Refuse(Refusal::BeyondLen);
+        return Err(Refusal::BeyondLen);
     }
     judge_growth(s, some, start, end, count - 1)
 }
@@ -59,8 +64,8 @@ pub fn return_prepare_host_frame(
         ≡ answered (world_of s words.now cells.old) (Traced (ReturnHost q)) }
 {
     match judge_return_host(s, words, cells, q) {
-        Judgement::Refuse(why) => refused(s, why),
-        Judgement::Accept(room) => step_return_host(s, words, cells, q, room),
+        Err(why) => refused(s, why),
+        Ok(room) => step_return_host(s, words, cells, q, room),
     }
 }
 

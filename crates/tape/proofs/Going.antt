@@ -1,7 +1,8 @@
 -- What is run of a block that was cut, and what is held after it. Assumes nothing.
 --     first_run, own_run       the record that the block completes, and its own whole records
 --     CutRun, cut_run        they are the whole records of the held bytes and the block, and lie where the cut says
---     first_unrun, first_replayed, held_ran, holds_after, cut_went      as the code finds them
+--     first_most, part_ran, holds_after, cut_went      as the code finds them
+use Rattle.std.specs.Prelude.{is_some}
 use mathlib.Core.Path.{◌≡◌, refl, sym, ap, ◌∙◌}
 use mathlib.Core.Bool.{Bool, true, false}
 use mathlib.Core.List.{List, [], ◌∷◌, ◌++◌}
@@ -11,10 +12,10 @@ use native.Mathlib.Omega.{arith}
 use native.Mathlib.Decide.{dec_lt}
 use lib.Dec.{eqb}
 use lib.ListN.{length, take, drop, replicate, length-append, length-take, length-drop}
-use borrow.Author.Tests.{eq-eqb, ne_eqb}
+use lib.Seq.{take_all}
+use borrow.Author.Tests.{ne_eqb}
 use Rattle.choice.specs.Choose.{choose}
-use Rattle.choice.proofs.Choices.{chosen_first, chosen_second}
-use Rattle.given.specs.Given.{is_given}
+use Rattle.choice.proofs.Choices.{chosen_second, chosen_holds}
 use Rattle.runs.proofs.Lists.{sets_whole}
 use Rattle.record.specs.Form.{record_size}
 use Rattle.request.specs.Entries.{WholeRecords}
@@ -25,7 +26,7 @@ use Rattle.replay.proofs.Turns.{replay_joins}
 use Rattle.tape.specs.declared.tape.Tape.{Tape}
 use Rattle.tape.specs.declared.cut.Cut.{Cut}
 use Rattle.tape.specs.Tapes.{most_held, held_bytes, kept_of, taping_of, whole_bytes, whole_in, rest_in, tape_holds, held_after, went_through}
-use Rattle.tape.specs.Cuts.{cut_from, cut_of}
+use Rattle.tape.specs.Cuts.{cut_from, first_in, first_count, cut_of}
 use Rattle.tape.proofs.Whole.{whole_joins, whole_none}
 use Rattle.tape.proofs.Cutting.{from_none, from_missing, missing_bytes, parted, first_length, first_whole, first_full}
 
@@ -35,11 +36,11 @@ unfolding replayed ran_all
 replay_nothing v = ap (ran_all v) (entries_end [] 0 (omega arith))
 
 -- ---- what is run of a cut
-abbrev pub first_run : Cut → List ℕ
-first_run c = choose (eqb c.from 0) [] c.first
-
 abbrev pub own_run : Cut → (block : List ℕ) → List ℕ
 own_run c block = take (c.to - c.from) (drop c.from block)
+
+abbrev pub first_run : Cut → List ℕ
+first_run c = take (first_count c) c.first
 
 pub record CutRun (held block : List ℕ) (c : Cut) : Type 0 where
   pub whole : WholeRecords (first_run c)
@@ -69,9 +70,11 @@ module _ (held block : List ℕ) where
     first_is : first_run (cut_of held block) ≡ held ++ missing_bytes held block
     unfolding cut_of
     first_is =
-        sym (chosen_second _ _ _ _ _ (ne_eqb _ 0 from_some) refl)
-        ∙ ap kept_of (first_full held block from_some ∙ ap (λ k. held ++ take k block) from_is)
-        ∙ sets_whole (held ++ missing_bytes held block) (replicate record_size 0) (first_length held block most enough)
+        let long = first_length held block most enough in
+        ap (λ k. take k (kept_of (first_in held block))) (sym (chosen_second _ _ _ _ _ (ne_eqb _ 0 from_some) refl))
+        ∙ ap (λ l. take record_size (kept_of l)) (first_full held block from_some ∙ ap (λ k. held ++ take k block) from_is)
+        ∙ ap (take record_size) (sets_whole (held ++ missing_bytes held block) (replicate record_size 0) long)
+        ∙ take_all record_size (held ++ missing_bytes held block) (omega arith)
 
     own_is : own_run (cut_of held block) block ≡ whole_in (drop (record_size - length held) block)
     unfolding cut_of whole_in
@@ -108,21 +111,17 @@ cut_run (x ∷ xs) block m = by (dec_lt (length (x ∷ xs) + length block) recor
     by (no p) = full_run (x ∷ xs) block (λ z. absurd (omega arith)) m (omega arith)
 
 -- ---- as the code finds them
-module _ (v : Running) (first : List ℕ) (from : ℕ) where
-  pub first_unrun : from ≡ 0 → v ≡ replayed v (choose (eqb from 0) [] first)
-  first_unrun e = sym (replay_nothing v) ∙ ap (replayed v) (chosen_first _ _ _ _ _ (eq-eqb from 0 e) refl)
+pub first_most : (c : Cut) → first_count c ≤ record_size
+first_most c = chosen_holds (λ n. n ≤ record_size) (eqb c.from 0) 0 record_size (omega arith) (omega arith)
 
-  pub first_replayed : (u : Running) → (from ≡ 0 → ⊥) → u ≡ replayed v first → u ≡ replayed v (choose (eqb from 0) [] first)
-  first_replayed u e p = p ∙ ap (replayed v) (chosen_second _ _ _ _ _ (ne_eqb from 0 e) refl)
-
-pub held_ran : (u v : Running) (kept : List ℕ) (held r : ℕ) → u ≡ replayed v (take r kept) → r ≡ min held most_held → u ≡ replayed v (held_bytes kept held)
-held_ran u v kept held r p e = p ∙ ap (λ k. replayed v (take k kept)) e
+pub part_ran : (u v : Running) (l : List ℕ) (n m : ℕ) → u ≡ replayed v (take n l) → n ≡ m → u ≡ replayed v (take m l)
+part_ran u v l n m p e = p ∙ ap (λ k. replayed v (take k l)) e
 
 pub holds_after : (r : Run) (rest words cells : List ℕ) → taping_of (tape_holds r (kept_of rest) (length rest)) words cells ≡ held_after (running_of r words cells) rest
 unfolding tape_holds choose
-holds_after r rest words cells = by (is_given r.stop) refl
+holds_after r rest words cells = by (is_some r.stop) refl
   where
-    by : (s : Bool) → is_given r.stop ≡ s
+    by : (s : Bool) → is_some r.stop ≡ s
         → taping_of (tape_holds r (kept_of rest) (length rest)) words cells ≡ held_after (running_of r words cells) rest
     by true e = rw e
     by false e = rw e

@@ -1,4 +1,3 @@
-pub mod Bytes
 pub mod Whole
 pub mod Cutting
 pub mod Going

@@ -2,6 +2,7 @@
 --     cut_from h n               how many bytes of a block of n complete the record of which h bytes are held: none where none are held, or too few come
 --     cut_to h n                 the place behind the last whole record of the block
 --     first_in held block        the record that is completed: the held bytes, and those; no bytes where none is
+--     first_count c              how many of the bytes that a cut keeps of it are run: none, or all
 --     cut_of held block          these, and the bytes left over
 use Rattle.std.specs.Prelude.{◌||◌, List, [], ◌++◌, ℕ, ◌+◌, ◌-◌, eqb, ltb, length, take, drop}
 use Rattle.choice.specs.Choose.{choose}
@@ -19,6 +20,9 @@ unfoldable pub first_in : (held block : List ℕ) → List ℕ
 first_in held block =
     let from = cut_from (length held) (length block) in
     choose (eqb from 0) [] (held ++ take from block)
+
+abbrev pub first_count : Cut → ℕ
+first_count c = choose (eqb c.from 0) 0 record_size
 
 abbrev pub cut_with : (first : List ℕ) (from to : ℕ) (rest : List ℕ) → Cut
 cut_with first from to rest = record { first = kept_of first; from = from; to = to; rest = kept_of rest; left = length rest }

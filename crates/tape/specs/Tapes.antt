@@ -8,22 +8,20 @@
 --     tape_begun, tape_holds       a tape by value: one that begins, and one after the whole records of a block
 --     feed_tests t block          22: a nonempty block after an end without a stop
 --     block_rests t block         nothing is run of a block: after a stop, after an end, and of an empty one
+--     rests_told t block          whether that is so, of a tape by value; 22 where a block is refused
 --     fed t block                the tape after a block
 --     feeding t block            with it the number answered
 --     end_rests t                 nothing is run by an end: after a stop, and after an end
 --     end_told t                  the tape after the end was told: what is held is replayed, a short record
-use Rattle.std.specs.Prelude.{Bool, true, false, not, ◌&&◌, ◌||◌, List, [], ◌∷◌, ◌++◌, ℕ, ◌-◌, ◌*◌, ◌/◌, min, eqb, length, take, drop, replicate}
+use Rattle.std.specs.Prelude.{Bool, true, false, not, ◌&&◌, ◌||◌, List, [], ◌∷◌, ◌++◌, ℕ, ◌-◌, ◌*◌, ◌/◌, min, eqb, length, take, drop, replicate, Result, ⊤, is_some, Ok, Err}
 use Rattle.std.proofs.lemmas.List.Edits.{sets}
 use Rattle.choice.specs.Choose.{choose}
 use Rattle.choice.specs.Tests.{Test, ◌gives◌, settle}
-use Rattle.given.specs.Given.{is_given}
 use Rattle.record.specs.Form.{record_size}
 use Rattle.replay.specs.Running.{Running, running_of, replayed}
 use Rattle.replay.specs.declared.run.Run.{Run}
 use Rattle.tape.specs.declared.tape.Tape.{Tape}
-use Rattle.tape.specs.declared.tape.Fed.{Fed}
-use Rattle.tape.specs.declared.tape.Fed.TheVariants.{Done, Refused}
-use Rattle.tape.specs.declared.tape.Feeding.{Feeding}
+use Rattle.tape.specs.declared.tape.AfterEnd.{AfterEnd}
 
 pub record Taping : Type 0 where
   pub run : Running
@@ -66,7 +64,7 @@ unfoldable pub rest_in : List ℕ → List ℕ
 rest_in bytes = drop (whole_bytes (length bytes)) bytes
 
 abbrev pub has_stopped : Running → Bool
-has_stopped v = is_given v.stop
+has_stopped v = is_some v.stop
 
 abbrev pub is_empty : List ℕ → Bool
 is_empty block = eqb (length block) 0
@@ -82,7 +80,7 @@ abbrev pub tape_begun : Run → Tape
 tape_begun r = record { run = r; kept = kept_of []; held = 0; ended = false }
 
 unfoldable pub tape_holds : Run → (rest : List ℕ) (left : ℕ) → Tape
-tape_holds r rest left = choose (is_given r.stop) (tape_begun r) (record { run = r; kept = rest; held = left; ended = false })
+tape_holds r rest left = choose (is_some r.stop) (tape_begun r) (record { run = r; kept = rest; held = left; ended = false })
 
 unfoldable pub feed_tests : Taping → List ℕ → List Test
 feed_tests t block = (not (has_stopped t.run) && (t.ended && not (is_empty block))) gives 22 ∷ []
@@ -90,6 +88,10 @@ feed_tests t block = (not (has_stopped t.run) && (t.ended && not (is_empty block
 -- nothing is run of it
 abbrev pub block_rests : Taping → List ℕ → Bool
 block_rests t block = has_stopped t.run || (t.ended || is_empty block)
+
+-- whether it is so, as the code asks: where it is not, a block is refused after an end
+unfoldable pub rests_told : Tape → List ℕ → Result Bool AfterEnd
+rests_told t block = choose (is_some t.run.stop || is_empty block) (Ok true) (choose t.ended (Err record {}) (Ok false))
 
 unfoldable pub fed : Taping → List ℕ → Taping
 fed t block = choose (block_rests t block) t (went_through t.run (held_in t ++ block))
@@ -101,12 +103,12 @@ pub record ShownFed : Type 0 where
 abbrev pub fed_with : Taping → (number : ℕ) → ShownFed
 fed_with t number = record { number = number; tape = t }
 
-abbrev pub fed_number : Fed → ℕ
-fed_number Done = 0
-fed_number Refused = 22
+abbrev pub fed_number : Result ⊤ AfterEnd → ℕ
+fed_number (Ok done) = 0
+fed_number (Err after_end) = 22
 
-abbrev pub shown_feeding : Feeding → (words cells : List ℕ) → ShownFed
-shown_feeding f words cells = fed_with (taping_of f.tape words cells) (fed_number f.fed)
+abbrev pub shown_feeding : Result ⊤ AfterEnd → Tape → (words cells : List ℕ) → ShownFed
+shown_feeding r t words cells = fed_with (taping_of t words cells) (fed_number r)
 
 unfoldable pub feeding : Taping → List ℕ → ShownFed
 unfolding feed_tests

@@ -2,13 +2,14 @@
 ghost use Rattle.std.specs.Prelude.{◌≡◌, ◌+◌, ◌≤◌, min, length};
 ghost use Rattle.std.proofs.lemmas.List.Edits.{sets};
 ghost use Rattle.tape.specs.Tapes.{most_held, held_bytes};
-ghost use Rattle.tape.specs.Cuts.{cut_of, cut_behind};
+ghost use Rattle.tape.specs.Cuts.{first_count, cut_of, cut_behind};
 
 use crate::tape::NO_BYTES;
 use record::RECORD_SIZE;
 
 // `first` is the record that was unfinished, whole now where `from` is not 0: so many bytes of the block are in it. The block's own whole records lie from
 // `from` up to `to`, and `left` bytes of `rest` begin another: those behind them, or where no record was completed all that are there.
+// The cut record in its forty bytes, as in a tape.
 #[derive(Clone, Copy)]
 pub struct Cut {
     pub first: [u8; RECORD_SIZE],
@@ -16,6 +17,15 @@ pub struct Cut {
     pub to: usize,
     pub rest: [u8; RECORD_SIZE],
     pub left: usize,
+}
+
+impl Cut {
+    // How many bytes of `first` are run: none where no record was completed.
+    pub fn first_count(&self) -> usize
+        ensures { result ≡ first_count self.now }
+    {
+        if self.from == 0 { 0 } else { RECORD_SIZE }
+    }
 }
 
 // Cuts a block that comes behind held bytes.
@@ -45,10 +55,7 @@ pub fn cut_block(kept: [u8; RECORD_SIZE], held: usize, block: &[u8]) -> Cut
 pub fn held_count(held: usize) -> usize
     ensures { result ≡ min held most_held }
 {
-    if held < RECORD_SIZE {
-        return held;
-    }
-    RECORD_SIZE - 1
+    held.min(RECORD_SIZE - 1)
 }
 
 // Behind the bytes that went into the first record.
@@ -73,10 +80,6 @@ fn put_bytes(into: [u8; RECORD_SIZE], at: usize, bytes: &[u8]) -> [u8; RECORD_SI
     ensures { result ≡ sets into at bytes.now }
 {
     let mut out = into;
-    let mut k = 0;
-    while k < bytes.len() {
-        out[at + k] = bytes[k];
-        k += 1;
-    }
+    out[at..at + bytes.len()].copy_from_slice(bytes);
     out
 }

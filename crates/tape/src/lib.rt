@@ -7,4 +7,4 @@ mod tape;
 
 pub use cut::{Cut, cut_block, held_count};
 pub use feeding::{feed, finish};
-pub use tape::{Fed, Feeding, Tape, begin, hold};
+pub use tape::{AfterEnd, Tape, begin, hold};

@@ -1,13 +1,13 @@
 // A tape in its course, by value.
 ghost use Rattle.std.specs.Prelude.{◌≡◌};
-ghost use Rattle.tape.specs.Tapes.{tape_begun, tape_holds};
+ghost use Rattle.tape.specs.Tapes.{rests_told, tape_begun, tape_holds};
 
-use given::is_given;
 use record::RECORD_SIZE;
 use replay::Run;
 
 // A replay in its course, the bytes of an unfinished record with how many they are, and whether the end was told. Every value has its meaning: more
 // than 39 held bytes count as 39.
+// Forty bytes with how many are held: no heap, and C hands it by value.
 #[derive(Clone, Copy)]
 pub struct Tape {
     pub run: Run,
@@ -16,17 +16,25 @@ pub struct Tape {
     pub ended: bool,
 }
 
-// What a block was answered: done, or refused with 22.
+// Why a block is refused, with 22: it is not empty, and the end was told without a stop.
 #[derive(Clone, Copy)]
-pub enum Fed {
-    Done,
-    Refused,
-}
+pub struct AfterEnd;
 
-#[derive(Clone, Copy)]
-pub struct Feeding {
-    pub fed: Fed,
-    pub tape: Tape,
+impl Tape {
+    // Whether nothing is run of a block: after a stop, and of an empty one. Else it is refused after an end.
+    pub fn rests(&self, block: &[u8]) -> Result<bool, AfterEnd>
+        ensures { result ≡ rests_told self.now block.now }
+    {
+        let run = self.run;
+        let stop = run.stop;
+        if stop.is_some() | (block.len() == 0) {
+            return Ok(true);
+        }
+        if self.ended {
+            return Err(AfterEnd);
+        }
+        Ok(false)
+    }
 }
 
 pub(crate) const NO_BYTES: [u8; RECORD_SIZE] = [0; RECORD_SIZE];
@@ -48,7 +56,7 @@ pub fn hold(run: Run, rest: [u8; RECORD_SIZE], left: usize) -> Tape
     ensures { result ≡ tape_holds run rest left }
 {
     let stop = run.stop;
-    if is_given(stop) {
+    if stop.is_some() {
         return begin(run);
     }
     Tape {

@@ -1,64 +1,53 @@
-// Where a run stands, and what it has counted: six numbers, by their places.
-use std::num::wrapping_add_u64;
+// Where a run stands, and what it has counted.
 
-// The file, by the number of its argument; the line in it; lines with a word, numbers compared, numbers that differ, lines that could not be read.
-pub const FILE: usize = 0;
-
-pub const LINE: usize = 1;
-
-pub const ENTRIES: usize = 2;
-
-pub const COMPARED: usize = 3;
-
-pub const DIFFER: usize = 4;
-
-pub const BAD: usize = 5;
-
+// The file, by the number of its argument; the lines up to here; those with a word; numbers compared, numbers that differ, lines that could not be read.
 #[derive(Clone, Copy)]
 pub struct Counts {
-    pub numbers: [u64; 6],
+    pub file: usize,
+    pub lines: u64,
+    pub entries: u64,
+    pub compared: u64,
+    pub differ: u64,
+    pub bad: u64,
 }
 
-// Nothing yet, of a file.
-pub fn none_of(file: usize) -> Counts {
-    Counts {
-        numbers: [file as u64, 0, 0, 0, 0, 0],
+impl Counts {
+    // Nothing yet, of a file.
+    pub fn none_of(file: usize) -> Counts {
+        Counts {
+            file,
+            lines: 0,
+            entries: 0,
+            compared: 0,
+            differ: 0,
+            bad: 0,
+        }
     }
-}
 
-// An entry more, with so many numbers.
-pub fn entered(c: Counts, compared: u64, differ: u64) -> Counts {
-    let mut numbers = c.numbers;
-    numbers[ENTRIES] = wrapping_add_u64(numbers[ENTRIES], 1);
-    numbers[COMPARED] = wrapping_add_u64(numbers[COMPARED], compared);
-    numbers[DIFFER] = wrapping_add_u64(numbers[DIFFER], differ);
-    Counts { numbers }
-}
+    // A file that could not be read.
+    pub fn unread(file: usize) -> Counts {
+        Counts {
+            bad: 1,
+            ..Counts::none_of(file)
+        }
+    }
 
-pub fn a_line_more(c: Counts) -> Counts {
-    let mut numbers = c.numbers;
-    numbers[LINE] = wrapping_add_u64(numbers[LINE], 1);
-    Counts { numbers }
-}
+    // An entry more, with so many numbers.
+    pub fn enter(&mut self, compared: u64, differ: u64) {
+        self.entries = self.entries.wrapping_add(1);
+        self.compared = self.compared.wrapping_add(compared);
+        self.differ = self.differ.wrapping_add(differ);
+    }
 
-pub fn a_bad_line_more(c: Counts) -> Counts {
-    let mut numbers = c.numbers;
-    numbers[BAD] = wrapping_add_u64(numbers[BAD], 1);
-    Counts { numbers }
-}
-
-// Both together, at the later file.
-pub fn joined(all: Counts, c: Counts) -> Counts {
-    let a = all.numbers;
-    let b = c.numbers;
-    Counts {
-        numbers: [
-            b[FILE],
-            wrapping_add_u64(a[LINE], b[LINE]),
-            wrapping_add_u64(a[ENTRIES], b[ENTRIES]),
-            wrapping_add_u64(a[COMPARED], b[COMPARED]),
-            wrapping_add_u64(a[DIFFER], b[DIFFER]),
-            wrapping_add_u64(a[BAD], b[BAD]),
-        ],
+    // Both together, at the later file.
+    pub fn joined(self, later: Counts) -> Counts {
+        Counts {
+            file: later.file,
+            lines: self.lines.wrapping_add(later.lines),
+            entries: self.entries.wrapping_add(later.entries),
+            compared: self.compared.wrapping_add(later.compared),
+            differ: self.differ.wrapping_add(later.differ),
+            bad: self.bad.wrapping_add(later.bad),
+        }
     }
 }

@@ -28,11 +28,7 @@ pub fn double_of(bits: u64) -> f64 {
 }
 
 pub fn single_bits(x: f32) -> u64 {
-    wide(bits_of_single(x))
-}
-
-fn wide(bits: u32) -> u64 {
-    bits as u64
+    u64::from(bits_of_single(x))
 }
 
 fn bits_of_single(x: f32) -> u32 {

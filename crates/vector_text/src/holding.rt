@@ -1,172 +1,162 @@
 // What came of a line, held to what it expects: the answer, then the state, then both buffers.
 use crate::counts::Counts;
-use crate::course::{Course, counted, faulty};
-use crate::held::{Mark, held, held_first, mark_at};
-use crate::say::WRONG_COUNT;
+use crate::fault::{Fault, LineError};
+use crate::run::Run;
+use crate::say;
+use crate::say::Names;
 use crate::sums::sum_of;
-use crate::tokens::BAR;
-use crate::told::{Outcome, Told};
+use crate::tokens::{BAR, token};
 use std::io;
-use std::num::wrapping_add_usize;
 use std::rt::Env;
 
 // Sums are over so many words at the most.
 const SUMMED: usize = 256;
 
-// An answer alone.
-pub fn hold(
-    rt: &(impl Env + Print),
-    c: Course,
-    tokens: &[u64],
-    names: &[u8],
-    t: Told,
-) -> io::Result<Course> {
-    let h = answer_held(rt, c.counts, tokens, names, t)?;
-    ended(rt, c, tokens, h)
+const STATE: [&str; 11] = [
+    "D", "M", "words", "L", "count", "len", "flag", "current", "ireg", "f32", "f64",
+];
+
+const TAPE: [&str; 12] = [
+    "number", "fuel", "spent", "stopped", "cost", "held", "end", "byte 0", "byte 8", "byte 16",
+    "byte 24", "byte 32",
+];
+
+// The numbers that a line expects, the next place among them, and what was compared so far.
+#[derive(Drop)]
+struct Mark<'r, 't, R> {
+    rt: &'r R,
+    counts: Counts,
+    tokens: &'t [u64],
+    at: usize,
+    compared: u64,
+    differ: u64,
 }
 
-fn answer_held(
-    rt: &(impl Env + Print),
-    c: Counts,
-    tokens: &[u64],
-    names: &[u8],
-    t: Told,
-) -> io::Result<Mark> {
-    let numbers = t.numbers;
-    let h = mark_at(wrapping_add_usize(t.inputs, 1));
-    held_first(rt, c, tokens, h, names, &numbers[..], t.width)
-}
-
-// What was compared counts, also where the line is too short or too long.
-fn ended(rt: &(impl Env + Print), c: Course, tokens: &[u64], h: Mark) -> io::Result<Course> {
-    let next = counted(c, h.compared, h.differ);
-    if h.at != tokens.len() {
-        return faulty(rt, next, WRONG_COUNT);
+impl<R: Env + Print> Mark<'_, '_, R> {
+    fn hold(&mut self, names: Names, found: &[u64]) -> io::Result<()> {
+        for (i, number) in found.iter().enumerate() {
+            self.hold_one(names, i, *number)?;
+        }
+        Ok(())
     }
-    Ok(next)
-}
 
-// An answer, the state after it, and the buffers. The state is the next line's.
-pub fn hold_all(
-    rt: &(impl Env + Print),
-    c: Course,
-    words: &[u64],
-    cells: &[u64],
-    tokens: &[u64],
-    names: &[u8],
-    o: Outcome,
-) -> io::Result<Course> {
-    let told = o.told;
-    let h = answer_held(rt, c.counts, tokens, names, told)?;
-    hold_after(rt, c, words, cells, tokens, h, o)
-}
-
-// The same with a tape behind the answer. The tape is the next line's too.
-pub fn hold_taped(
-    rt: &(impl Env + Print),
-    c: Course,
-    words: &[u64],
-    cells: &[u64],
-    tokens: &[u64],
-    tape: [u64; 12],
-    o: Outcome,
-) -> io::Result<Course> {
-    let told = o.told;
-    let h = answer_held(rt, c.counts, tokens, b"bar 1   answer  ", told)?;
-    let h = tape_held(rt, c.counts, tokens, h, tape)?;
-    hold_after(rt, Course { tape, ..c }, words, cells, tokens, h, o)
-}
-
-fn tape_held(
-    rt: &(impl Env + Print),
-    c: Counts,
-    tokens: &[u64],
-    h: Mark,
-    tape: [u64; 12],
-) -> io::Result<Mark> {
-    let names =
-        b"number  fuel    spent   stopped cost    held    end     byte 0  byte 8  byte 16 byte 24 byte 32 ";
-    held(rt, c, tokens, h, names, &tape[..])
-}
-
-fn hold_after(
-    rt: &(impl Env + Print),
-    c: Course,
-    words: &[u64],
-    cells: &[u64],
-    tokens: &[u64],
-    h: Mark,
-    o: Outcome,
-) -> io::Result<Course> {
-    let state = o.state;
-    let next = Course {
-        state,
-        words: o.words,
-        cells: o.cells,
-        ..c
-    };
-    let h = state_held(rt, c.counts, tokens, h, state)?;
-    if c.full == 0 {
-        return sums_held(rt, next, words, cells, tokens, h);
+    fn hold_bar(&mut self, name: &str) -> io::Result<()> {
+        self.hold_one(Names::Each(&[name]), 0, BAR)
     }
-    buffers_held(rt, next, words, cells, tokens, h)
-}
 
-// The state, between bars.
-fn state_held(
-    rt: &(impl Env + Print),
-    c: Counts,
-    tokens: &[u64],
-    h: Mark,
-    state: [u64; 11],
-) -> io::Result<Mark> {
-    let names =
-        b"D       M       words   L       count   len     flag    current ireg    f32     f64     ";
-    let h = held(rt, c, tokens, h, b"bar 2   ", &[BAR])?;
-    let h = held(rt, c, tokens, h, names, &state[..])?;
-    held(rt, c, tokens, h, b"bar 3   ", &[BAR])
-}
-
-// Every lent word, a bar, and every lent cell.
-fn buffers_held(
-    rt: &(impl Env + Print),
-    c: Course,
-    words: &[u64],
-    cells: &[u64],
-    tokens: &[u64],
-    h: Mark,
-) -> io::Result<Course> {
-    let h = held_first(rt, c.counts, tokens, h, b"word", words, c.words)?;
-    let h = held(rt, c.counts, tokens, h, b"bar 4   ", &[BAR])?;
-    let h = held_first(rt, c.counts, tokens, h, b"cell", cells, c.cells)?;
-    ended(rt, c, tokens, h)
-}
-
-// The lent words as a sum, a bar, and the lent cells as a sum.
-fn sums_held(
-    rt: &(impl Env + Print),
-    c: Course,
-    words: &[u64],
-    cells: &[u64],
-    tokens: &[u64],
-    h: Mark,
-) -> io::Result<Course> {
-    let n = summed(c.words);
-    let sums = [sum_of(words, n), BAR, sum_of(cells, c.cells)];
-    let h = held(
-        rt,
-        c.counts,
-        tokens,
-        h,
-        b"words   bar 4   cells   ",
-        &sums[..],
-    )?;
-    ended(rt, c, tokens, h)
-}
-
-fn summed(lent: usize) -> usize {
-    if lent < SUMMED {
-        return lent;
+    // A bar has to stand where one is found, and is no number that was compared.
+    fn hold_one(&mut self, names: Names, i: usize, found: u64) -> io::Result<()> {
+        let expected = token(self.tokens, self.at);
+        self.at = self.at.wrapping_add(1);
+        if expected == found {
+            if expected != BAR {
+                self.compared = self.compared.wrapping_add(1);
+            }
+            return Ok(());
+        }
+        self.compared = self.compared.wrapping_add(1);
+        self.differ = self.differ.wrapping_add(1);
+        say::difference(self.rt, self.counts, names, i, expected, found)
     }
-    SUMMED
+}
+
+impl<'r, R: Env + Print> Run<'r, '_, '_, '_, R> {
+    // An answer alone, behind so many numbers that were given.
+    pub fn hold(
+        &mut self,
+        tokens: &[u64],
+        inputs: usize,
+        names: &[&str],
+        answer: &[u64],
+    ) -> Result<(), LineError> {
+        let mut mark = self.mark(tokens, inputs);
+        mark.hold_bar("bar 1")?;
+        mark.hold(Names::Each(names), answer)?;
+        self.end(mark)
+    }
+
+    // An answer, the state after it, and the buffers.
+    pub fn hold_all(
+        &mut self,
+        tokens: &[u64],
+        inputs: usize,
+        names: &[&str],
+        answer: &[u64],
+        state: [u64; 11],
+    ) -> Result<(), LineError> {
+        let mut mark = self.mark(tokens, inputs);
+        mark.hold_bar("bar 1")?;
+        mark.hold(Names::Each(names), answer)?;
+        self.hold_state(mark, state)
+    }
+
+    // The same with a tape behind the answer. The tape is the next line's.
+    pub fn hold_taped(
+        &mut self,
+        tokens: &[u64],
+        inputs: usize,
+        answer: &[u64],
+        tape: [u64; 12],
+        state: [u64; 11],
+    ) -> Result<(), LineError> {
+        let mut mark = self.mark(tokens, inputs);
+        mark.hold_bar("bar 1")?;
+        mark.hold(Names::Each(&["answer"]), answer)?;
+        mark.hold(Names::Each(&TAPE), &tape)?;
+        self.tape = tape;
+        self.hold_state(mark, state)
+    }
+
+    fn mark<'t>(&self, tokens: &'t [u64], inputs: usize) -> Mark<'r, 't, R> {
+        Mark {
+            rt: self.rt,
+            counts: self.counts,
+            tokens,
+            at: inputs.wrapping_add(1),
+            compared: 0,
+            differ: 0,
+        }
+    }
+
+    // The state, between bars, and both buffers. The state is the next line's.
+    fn hold_state(&mut self, mark: Mark<R>, state: [u64; 11]) -> Result<(), LineError> {
+        let mut mark = mark;
+        mark.hold_bar("bar 2")?;
+        mark.hold(Names::Each(&STATE), &state)?;
+        mark.hold_bar("bar 3")?;
+        self.state = state;
+        self.hold_words(&mut mark)?;
+        mark.hold_bar("bar 4")?;
+        self.hold_cells(&mut mark)?;
+        self.end(mark)
+    }
+
+    // Every lent word, or a sum.
+    fn hold_words(&self, mark: &mut Mark<R>) -> io::Result<()> {
+        let n = self.words_lent.min(self.words.len());
+        if self.is_full {
+            return mark.hold(Names::List("word"), &self.words[..n]);
+        }
+        let sum = sum_of(&self.words[..n.min(SUMMED)]);
+        mark.hold(Names::Each(&["words"]), &[sum])
+    }
+
+    // Every lent cell, or a sum.
+    fn hold_cells(&self, mark: &mut Mark<R>) -> io::Result<()> {
+        let n = self.cells_lent.min(self.cells.len());
+        if self.is_full {
+            return mark.hold(Names::List("cell"), &self.cells[..n]);
+        }
+        let sum = sum_of(&self.cells[..n]);
+        mark.hold(Names::Each(&["cells"]), &[sum])
+    }
+
+    // What was compared counts, also where the line is too short or too long.
+    fn end(&mut self, mark: Mark<R>) -> Result<(), LineError> {
+        self.counts.enter(mark.compared, mark.differ);
+        if mark.at != mark.tokens.len() {
+            return Err(LineError::Fault(Fault::WrongCount));
+        }
+        Ok(())
+    }
 }

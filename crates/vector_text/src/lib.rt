@@ -3,14 +3,13 @@
 #![tactic(auto)]
 
 pub mod counts;
-pub mod course;
+pub mod fault;
 pub mod floats;
-pub mod held;
 pub mod holding;
 pub mod laying;
 pub mod reading;
+pub mod run;
 pub mod say;
 pub mod sums;
 pub mod tokens;
-pub mod told;
 pub mod traces;

@@ -1,222 +1,157 @@
 // A line as numbers. The first is a word of at most eight small letters, its bytes as one number. Blanks and ':' part numbers; '-' is two zeros, as 0:0
 // is; a number is decimal and below 10^19, or 0x and hexadecimal; '|' parts groups, '#' begins a comment.
-use crate::say::{BAD_TOKEN, TOO_LARGE, TOO_MANY, UNENDED};
+use crate::fault::Fault;
 use crate::tokens::{BAR, MISSING};
-use std::num::wrapping_add_u64;
 
 // What is being read: nothing, a comment, a number to the base of ten or sixteen, or a word.
-const BETWEEN: u64 = 0;
-
-const COMMENT: u64 = 1;
-
-const DECIMAL: u64 = 10;
-
-const HEX: u64 = 16;
-
-const WORD: u64 = 256;
-
-// So many numbers are read; what is being read, and its value so far; what is wrong (0 for nothing); where the next line begins.
-#[derive(Clone, Copy)]
-pub struct Reading {
-    pub n: usize,
-    pub base: u64,
-    pub value: u64,
-    pub fault: u64,
-    pub next: usize,
+#[derive(Clone, Copy, PartialEq, Eq)]
+enum Kind {
+    Between,
+    Comment,
+    Decimal,
+    Hex,
+    Word,
 }
 
-fn fresh_reading() -> Reading {
-    Reading {
+// So many numbers are read; what is being read, and its value so far; what is wrong, the last of it.
+#[derive(Drop)]
+struct Reading<'a> {
+    tokens: &'a mut [u64],
+    n: usize,
+    kind: Kind,
+    value: u64,
+    fault: Option<Fault>,
+}
+
+// How many numbers the line has, whose last byte is the end of a line.
+pub fn read_line(tokens: &mut [u64], line: &[u8]) -> Result<usize, Fault> {
+    let mut reading = Reading {
+        tokens,
         n: 0,
-        base: BETWEEN,
+        kind: Kind::Between,
         value: 0,
-        fault: 0,
-        next: 0,
-    }
-}
-
-fn bad(r: Reading) -> Reading {
-    Reading {
-        fault: BAD_TOKEN,
-        ..r
-    }
-}
-
-// The line that begins at a place.
-pub fn read_line(tokens: &mut [u64], text: &[u8], from: usize) -> Reading {
-    let mut r = fresh_reading();
-    for i in from..text.len() {
-        let b = text[i];
-        if b == b'\n' {
-            let last = closed(tokens, r);
-            return Reading {
-                next: i + 1,
-                ..last
-            };
+        fault: None,
+    };
+    for byte in line {
+        if *byte == b'\n' {
+            return reading.ended();
         }
-        r = fed(tokens, r, b);
+        reading.feed(*byte);
     }
-    Reading {
-        fault: UNENDED,
-        next: from.max(text.len()),
-        ..r
-    }
+    Err(Fault::Unended)
 }
 
-fn fed(tokens: &mut [u64], r: Reading, b: u8) -> Reading {
-    if r.base == COMMENT {
-        return r;
-    }
-    match b {
-        b'0'..=b'9' => digit(r, b - b'0'),
-        b'a'..=b'z' => letter(r, b),
-        _ => {
-            let before = closed(tokens, r);
-            mark(tokens, before, b)
+impl Reading<'_> {
+    fn ended(&mut self) -> Result<usize, Fault> {
+        self.close();
+        match self.fault {
+            Some(fault) => Err(fault),
+            None => Ok(self.n),
         }
     }
-}
 
-// What stands between numbers.
-fn mark(tokens: &mut [u64], r: Reading, b: u8) -> Reading {
-    match b {
-        b' ' | b':' => r,
-        b'#' => Reading { base: COMMENT, ..r },
-        b'|' => pushed(tokens, r, BAR),
-        b'-' => {
-            let flag = pushed(tokens, r, 0);
-            pushed(tokens, flag, 0)
+    fn fail(&mut self, fault: Fault) {
+        self.fault = Some(fault);
+    }
+
+    fn feed(&mut self, b: u8) {
+        if self.kind == Kind::Comment {
+            return;
         }
-        _ => bad(r),
-    }
-}
-
-// The number that was being read is put behind those before it.
-fn closed(tokens: &mut [u64], r: Reading) -> Reading {
-    if r.base <= COMMENT {
-        return r;
-    }
-    let v = r.value;
-    match v {
-        BAR | MISSING => bad(r),
-        _ => pushed(tokens, r, v),
-    }
-}
-
-fn pushed(tokens: &mut [u64], r: Reading, value: u64) -> Reading {
-    let n = r.n;
-    if tokens.len() <= n {
-        return Reading {
-            fault: TOO_MANY,
-            ..r
-        };
-    }
-    tokens[n] = value;
-    Reading {
-        n: n + 1,
-        base: BETWEEN,
-        value: 0,
-        ..r
-    }
-}
-
-// The first of a line is a word, and no word has a digit.
-fn digit(r: Reading, d: u8) -> Reading {
-    let base = r.base;
-    match base {
-        BETWEEN => begun(r, d),
-        DECIMAL => decimal_digit(r, d),
-        HEX => hex_digit(r, d),
-        _ => bad(r),
-    }
-}
-
-fn begun(r: Reading, d: u8) -> Reading {
-    if r.n == 0 {
-        return bad(r);
-    }
-    Reading {
-        base: DECIMAL,
-        value: d as u64,
-        ..r
-    }
-}
-
-fn decimal_digit(r: Reading, d: u8) -> Reading {
-    let v = r.value;
-    if v < 1_000_000_000_000_000_000 {
-        return Reading {
-            value: wrapping_add_u64(10 * v, d as u64),
-            ..r
-        };
-    }
-    Reading {
-        fault: TOO_LARGE,
-        ..r
-    }
-}
-
-fn hex_digit(r: Reading, d: u8) -> Reading {
-    let v = r.value;
-    if v < 0x1000_0000_0000_0000 {
-        return Reading {
-            value: wrapping_add_u64(16 * v, d as u64),
-            ..r
-        };
-    }
-    Reading {
-        fault: TOO_LARGE,
-        ..r
-    }
-}
-
-fn letter(r: Reading, b: u8) -> Reading {
-    let base = r.base;
-    match base {
-        BETWEEN => {
-            if r.n != 0 {
-                return bad(r);
+        match b {
+            b'0'..=b'9' => self.digit(b - b'0'),
+            b'a'..=b'z' => self.letter(b),
+            _ => {
+                self.close();
+                self.mark(b);
             }
-            word_letter(r, b)
         }
-        WORD => word_letter(r, b),
-        DECIMAL => hex_begun(r, b),
-        _ => hex_letter(r, b),
     }
-}
 
-fn word_letter(r: Reading, b: u8) -> Reading {
-    let v = r.value;
-    if v < 0x100_0000_0000_0000 {
-        return Reading {
-            base: WORD,
-            value: wrapping_add_u64(256 * v, b as u64),
-            ..r
-        };
+    // What stands between numbers.
+    fn mark(&mut self, b: u8) {
+        match b {
+            b' ' | b':' => (),
+            b'#' => self.kind = Kind::Comment,
+            b'|' => self.push(BAR),
+            b'-' => {
+                self.push(0);
+                self.push(0);
+            }
+            _ => self.fail(Fault::BadToken),
+        }
     }
-    Reading {
-        fault: TOO_LARGE,
-        ..r
-    }
-}
 
-// The 'x' behind a 0.
-fn hex_begun(r: Reading, b: u8) -> Reading {
-    if b != b'x' {
-        return bad(r);
+    // The number that was being read is put behind those before it.
+    fn close(&mut self) {
+        match self.kind {
+            Kind::Between | Kind::Comment => (),
+            Kind::Decimal | Kind::Hex | Kind::Word => match self.value {
+                BAR | MISSING => self.fail(Fault::BadToken),
+                value => self.push(value),
+            },
+        }
     }
-    if r.value != 0 {
-        return bad(r);
-    }
-    Reading { base: HEX, ..r }
-}
 
-fn hex_letter(r: Reading, b: u8) -> Reading {
-    if b < b'a' {
-        return bad(r);
+    fn push(&mut self, value: u64) {
+        match self.tokens.get_mut(self.n) {
+            Some(room) => *room = value,
+            None => return self.fail(Fault::TooMany),
+        }
+        self.n = self.n.wrapping_add(1);
+        self.kind = Kind::Between;
+        self.value = 0;
     }
-    if b'f' < b {
-        return bad(r);
+
+    // The first of a line is a word, and no word has a digit.
+    fn digit(&mut self, d: u8) {
+        match self.kind {
+            Kind::Between => {
+                if self.n == 0 {
+                    return self.fail(Fault::BadToken);
+                }
+                self.kind = Kind::Decimal;
+                self.value = d as u64;
+            }
+            Kind::Decimal => self.append(10, 1_000_000_000_000_000_000, d),
+            Kind::Hex => self.append(16, 1 << 60, d),
+            Kind::Comment | Kind::Word => self.fail(Fault::BadToken),
+        }
     }
-    hex_digit(r, b - 0x57)
+
+    fn letter(&mut self, b: u8) {
+        match self.kind {
+            Kind::Between => {
+                if self.n != 0 {
+                    return self.fail(Fault::BadToken);
+                }
+                self.kind = Kind::Word;
+                self.value = b as u64;
+            }
+            Kind::Word => self.append(256, 1 << 56, b),
+            Kind::Decimal => self.begin_hex(b),
+            Kind::Comment | Kind::Hex => match b {
+                b'a'..=b'f' => self.append(16, 1 << 60, b - b'a' + 10),
+                _ => self.fail(Fault::BadToken),
+            },
+        }
+    }
+
+    // The 'x' behind a 0.
+    fn begin_hex(&mut self, b: u8) {
+        if b == b'x' && self.value == 0 {
+            self.kind = Kind::Hex;
+        } else {
+            self.fail(Fault::BadToken);
+        }
+    }
+
+    // A digit more, where the value has room for one.
+    fn append(&mut self, base: u64, room_below: u64, digit: u8) {
+        if self.value < room_below {
+            self.value = self.value.wrapping_mul(base).wrapping_add(digit as u64);
+        } else {
+            self.fail(Fault::TooLarge);
+        }
+    }
 }

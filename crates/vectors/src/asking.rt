@@ -1,242 +1,155 @@
 // Lines that ask something of a stack: the answer, the state after it and both buffers are held to what the line expects.
-use crate::states::{registers_of, state_of};
+use crate::states::{registers_of, state_of, state_told};
 use crate::told::{answer_told, part_told};
-use crate::words::NO_KIND;
 use cells::HostFrame;
-use face::CRequest;
+use face::{CPart, CRequest};
 use face_ask::{
-    cattlecleat_ask, cattlecleat_host_part, cattlecleat_open, cattlecleat_sync_registers,
+    CAnswer, cattlecleat_ask, cattlecleat_host_part, cattlecleat_open, cattlecleat_sync_registers,
 };
 use face_leaves::{cattlecleat_read_record, cattlecleat_write_record};
 use regs::Registers;
-use std::io;
-use std::num::wrapping_add_usize;
 use std::rt::Env;
-use vector_text::course::{Course, faulty, with_no_tape};
+use vector_text::fault::{Fault, LineError};
 use vector_text::floats::is_single;
-use vector_text::holding::hold_all;
-use vector_text::say::{NO_SUCH_WORD, OUTSIDE, TOO_LARGE};
-use vector_text::tokens::{are_counts, are_five_counts, count, least, place, token};
-use vector_text::told::Outcome;
-use vector_text::traces::lay;
-
-const RECORD_BYTES: usize = 40;
+use vector_text::run::Run;
+use vector_text::tokens::{count, ends_within, fit_counts, place, token};
+use vector_text::traces::{RECORD_BYTES, record_in};
 
 // How many words an opening refills; of the cells it is all.
 const REFILLED: usize = 256;
 
-const ANSWER: [u8; 96] =
-    *b"bar 1   number  offset  ip      instancestart   end     params  results ireg    f32     f64     ";
+const ANSWER: [&str; 11] = [
+    "number", "offset", "ip", "instance", "start", "end", "params", "results", "ireg", "f32", "f64",
+];
 
 // A request by its ten numbers, from a place on.
-pub fn request_at(tokens: &[u64], kind: u64, from: usize) -> CRequest {
+pub fn request_in(tokens: &[u64], kind: u64, from: usize) -> CRequest {
     CRequest {
         kind,
         head: count(tokens, from),
-        params: count(tokens, wrapping_add_usize(from, 1)),
-        locals: count(tokens, wrapping_add_usize(from, 2)),
-        slots: count(tokens, wrapping_add_usize(from, 3)),
-        results: count(tokens, wrapping_add_usize(from, 4)),
-        callerflag: token(tokens, wrapping_add_usize(from, 5)),
-        caller: token(tokens, wrapping_add_usize(from, 6)),
-        callee: token(tokens, wrapping_add_usize(from, 7)),
-        instanceflag: token(tokens, wrapping_add_usize(from, 8)),
-        instance: token(tokens, wrapping_add_usize(from, 9)),
+        params: count(tokens, from.wrapping_add(1)),
+        locals: count(tokens, from.wrapping_add(2)),
+        slots: count(tokens, from.wrapping_add(3)),
+        results: count(tokens, from.wrapping_add(4)),
+        callerflag: token(tokens, from.wrapping_add(5)),
+        caller: token(tokens, from.wrapping_add(6)),
+        callee: token(tokens, from.wrapping_add(7)),
+        instanceflag: token(tokens, from.wrapping_add(8)),
+        instance: token(tokens, from.wrapping_add(9)),
     }
 }
 
 // A request by its kind goes by the writer and the reader of records.
-pub fn by_kind(
-    rt: &(impl Env + Print),
-    c: Course,
-    words: &mut [u64],
-    cells: &mut [u64],
+pub fn asked_by_kind<R: Env + Print>(
+    run: &mut Run<R>,
     tokens: &[u64],
     kind: u64,
-) -> io::Result<Course> {
-    if kind == NO_KIND {
-        return faulty(rt, c, NO_SUCH_WORD);
-    }
-    if !are_five_counts(tokens, 1) {
-        return faulty(rt, c, TOO_LARGE);
-    }
-    let read = written_and_read(request_at(tokens, kind, 1));
-    requested(rt, c, words, cells, tokens, 10, read)
-}
-
-fn written_and_read(q: CRequest) -> CRequest {
+) -> Result<(), LineError> {
+    fit_counts(tokens, 1, 5)?;
     let mut bytes = [0u8; RECORD_BYTES];
-    cattlecleat_write_record(&mut bytes, 0, q);
-    let read = cattlecleat_read_record(&bytes, 0);
-    read.request
+    cattlecleat_write_record(&mut bytes, 0, request_in(tokens, kind, 1));
+    asked(run, tokens, 10, cattlecleat_read_record(&bytes, 0).request)
 }
 
-pub fn straight(
-    rt: &(impl Env + Print),
-    c: Course,
-    words: &mut [u64],
-    cells: &mut [u64],
-    tokens: &[u64],
-) -> io::Result<Course> {
-    if !are_five_counts(tokens, 2) {
-        return faulty(rt, c, TOO_LARGE);
-    }
-    let q = request_at(tokens, token(tokens, 1), 2);
-    requested(rt, c, words, cells, tokens, 11, q)
+pub fn asked_in_full<R: Env + Print>(run: &mut Run<R>, tokens: &[u64]) -> Result<(), LineError> {
+    fit_counts(tokens, 2, 5)?;
+    asked(run, tokens, 11, request_in(tokens, token(tokens, 1), 2))
 }
 
 // A record by its bytes. One that reads badly has a request of no kind: the answer is 10.
-pub fn recorded(
-    rt: &(impl Env + Print),
-    c: Course,
-    words: &mut [u64],
-    cells: &mut [u64],
-    tokens: &[u64],
-) -> io::Result<Course> {
-    let mut bytes = [0u8; RECORD_BYTES];
-    lay(&mut bytes, 0, tokens, 1);
-    let read = cattlecleat_read_record(&bytes, 0);
-    requested(rt, c, words, cells, tokens, 5, read.request)
+pub fn asked_in_record<R: Env + Print>(run: &mut Run<R>, tokens: &[u64]) -> Result<(), LineError> {
+    let bytes = record_in(tokens, 1);
+    asked(run, tokens, 5, cattlecleat_read_record(&bytes, 0).request)
 }
 
-fn requested(
-    rt: &(impl Env + Print),
-    c: Course,
-    words: &mut [u64],
-    cells: &mut [u64],
+fn asked<R: Env + Print>(
+    run: &mut Run<R>,
     tokens: &[u64],
     inputs: usize,
     q: CRequest,
-) -> io::Result<Course> {
-    let w = least(c.words, words.len());
-    let m = least(c.cells, cells.len());
-    let before = c.state;
-    let o = asked_over(before, &mut words[0..w], &mut cells[0..m], inputs, q);
-    hold_all(rt, c, words, cells, tokens, &ANSWER, o)
-}
-
-fn asked_over(
-    before: [u64; 11],
-    words: &mut [u64],
-    cells: &mut [u64],
-    inputs: usize,
-    q: CRequest,
-) -> Outcome {
-    let a = cattlecleat_ask(state_of(before), words, cells, q);
-    answer_told(inputs, words.len(), cells.len(), a)
-}
-
-// Both buffers are refilled first: word i is 1000 and i, cell i is 2000 and i. The tape is one of zeros from then on.
-pub fn opened(
-    rt: &(impl Env + Print),
-    c: Course,
-    words: &mut [u64],
-    cells: &mut [u64],
-    tokens: &[u64],
-) -> io::Result<Course> {
-    if words.len() < place(tokens, 3) {
-        return faulty(rt, c, OUTSIDE);
-    }
-    if cells.len() < place(tokens, 4) {
-        return faulty(rt, c, OUTSIDE);
-    }
-    refill(words, REFILLED, 1000);
-    refill(cells, cells.len(), 2000);
-    open_over(rt, c, words, cells, tokens)
-}
-
-fn refill(buffer: &mut [u64], n: usize, from: u64) {
-    let end = least(n, buffer.len());
-    let mut next = from;
-    for i in 0..end {
-        buffer[i] = next;
-        next = std::num::wrapping_add_u64(next, 1);
-    }
-}
-
-fn open_over(
-    rt: &(impl Env + Print),
-    c: Course,
-    words: &[u64],
-    cells: &[u64],
-    tokens: &[u64],
-) -> io::Result<Course> {
-    let w = least(place(tokens, 3), words.len());
-    let m = least(place(tokens, 4), cells.len());
-    let bytes = place(tokens, 1);
-    let o = opened_over(bytes, place(tokens, 2), &words[0..w], &cells[0..m]);
-    hold_all(rt, with_no_tape(c), words, cells, tokens, &ANSWER, o)
-}
-
-fn opened_over(bytes: usize, depth: usize, words: &[u64], cells: &[u64]) -> Outcome {
-    let a = cattlecleat_open(bytes, depth, words, cells);
-    answer_told(4, words.len(), cells.len(), a)
-}
-
-pub fn synced(
-    rt: &(impl Env + Print),
-    c: Course,
-    words: &[u64],
-    cells: &[u64],
-    tokens: &[u64],
-) -> io::Result<Course> {
-    if !is_single(tokens, 2) {
-        return faulty(rt, c, TOO_LARGE);
-    }
-    let w = least(c.words, words.len());
-    let m = least(c.cells, cells.len());
-    let before = c.state;
-    let regs = registers_of(token(tokens, 1), token(tokens, 2), token(tokens, 3));
-    let o = synced_over(before, &words[0..w], &cells[0..m], regs);
-    hold_all(rt, c, words, cells, tokens, &ANSWER, o)
-}
-
-fn synced_over(before: [u64; 11], words: &[u64], cells: &[u64], regs: Registers) -> Outcome {
-    let a = cattlecleat_sync_registers(state_of(before), words, cells, regs);
-    answer_told(3, words.len(), cells.len(), a)
-}
-
-pub fn lent(
-    rt: &(impl Env + Print),
-    c: Course,
-    words: &[u64],
-    cells: &[u64],
-    tokens: &[u64],
-) -> io::Result<Course> {
-    if !are_counts(tokens, 3) {
-        return faulty(rt, c, TOO_LARGE);
-    }
-    let w = least(c.words, words.len());
-    let m = least(c.cells, cells.len());
-    let before = c.state;
-    let o = lent_over(before, &words[0..w], &cells[0..m], frame_in(tokens));
-    hold_all(
-        rt,
-        c,
-        words,
-        cells,
+) -> Result<(), LineError> {
+    let a = answer_to(run, q);
+    run.hold_all(
         tokens,
-        b"bar 1   number  offset  params  results ",
-        o,
+        inputs,
+        &ANSWER,
+        &answer_told(a),
+        state_told(a.state),
     )
 }
 
-fn frame_in(tokens: &[u64]) -> HostFrame {
-    HostFrame {
+// The two parts are taken here, and in each function like it: one that hands out both at once has no proof yet.
+fn answer_to<R>(run: &mut Run<R>, q: CRequest) -> CAnswer {
+    let state = state_of(run.state);
+    let words_lent = run.words_lent;
+    let cells_lent = run.cells_lent;
+    let words = &mut *run.words;
+    let cells = &mut *run.cells;
+    let n = words_lent.min(words.len());
+    let m = cells_lent.min(cells.len());
+    cattlecleat_ask(state, &mut words[..n], &mut cells[..m], q)
+}
+
+// Both buffers are refilled first: word i is 1000 and i, cell i is 2000 and i. The tape is one of zeros from then on.
+pub fn opened<R: Env + Print>(run: &mut Run<R>, tokens: &[u64]) -> Result<(), LineError> {
+    let words_lent = place(tokens, 3);
+    let cells_lent = place(tokens, 4);
+    ends_within(run.words.len(), words_lent)?;
+    ends_within(run.cells.len(), cells_lent)?;
+    refill(run.words, REFILLED, 1000);
+    refill(run.cells, usize::MAX, 2000);
+    run.words_lent = words_lent;
+    run.cells_lent = cells_lent;
+    run.tape = [0; 12];
+    let a = opening(run, place(tokens, 1), place(tokens, 2));
+    run.hold_all(tokens, 4, &ANSWER, &answer_told(a), state_told(a.state))
+}
+
+fn refill(buffer: &mut [u64], most: usize, from: u64) {
+    for (i, room) in buffer.iter_mut().take(most).enumerate() {
+        *room = from.wrapping_add(i as u64);
+    }
+}
+
+fn opening<R>(run: &Run<R>, bytes: usize, depth: usize) -> CAnswer {
+    let n = run.words_lent.min(run.words.len());
+    let m = run.cells_lent.min(run.cells.len());
+    cattlecleat_open(bytes, depth, &run.words[..n], &run.cells[..m])
+}
+
+pub fn synced<R: Env + Print>(run: &mut Run<R>, tokens: &[u64]) -> Result<(), LineError> {
+    if !is_single(tokens, 2) {
+        return Err(LineError::Fault(Fault::TooLarge));
+    }
+    let regs = registers_of(token(tokens, 1), token(tokens, 2), token(tokens, 3));
+    let a = syncing(run, regs);
+    run.hold_all(tokens, 3, &ANSWER, &answer_told(a), state_told(a.state))
+}
+
+fn syncing<R>(run: &Run<R>, regs: Registers) -> CAnswer {
+    let state = state_of(run.state);
+    let n = run.words_lent.min(run.words.len());
+    let m = run.cells_lent.min(run.cells.len());
+    cattlecleat_sync_registers(state, &run.words[..n], &run.cells[..m], regs)
+}
+
+// The state is not in the answer: it is as it was.
+pub fn lent<R: Env + Print>(run: &mut Run<R>, tokens: &[u64]) -> Result<(), LineError> {
+    fit_counts(tokens, 3, 2)?;
+    let frame = HostFrame {
         start: place(tokens, 1),
         end: place(tokens, 2),
         params: count(tokens, 3),
         results: count(tokens, 4),
-    }
+    };
+    let part = part_told(part_of(run, frame));
+    let names = ["number", "offset", "params", "results"];
+    run.hold_all(tokens, 4, &names, &part, run.state)
 }
 
-// The state is not in the answer: it is as it was.
-fn lent_over(state: [u64; 11], words: &[u64], cells: &[u64], frame: HostFrame) -> Outcome {
-    let p = cattlecleat_host_part(state_of(state), words, cells, frame);
-    Outcome {
-        state,
-        words: words.len(),
-        cells: cells.len(),
-        told: part_told(p),
-    }
+fn part_of<R>(run: &Run<R>, frame: HostFrame) -> CPart {
+    let state = state_of(run.state);
+    let n = run.words_lent.min(run.words.len());
+    let m = run.cells_lent.min(run.cells.len());
+    cattlecleat_host_part(state, &run.words[..n], &run.cells[..m], frame)
 }

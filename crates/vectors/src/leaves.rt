@@ -1,99 +1,56 @@
 // What stands on no stack: conversions, the aligned address and the done slot.
+use crate::told::done_told;
 use crate::typed::{number_of, register_of};
-use crate::words::{ALIGN, FILL, FROM, INTO};
 use face_leaves::{
-    CDone, CReason, cattlecleat_align, cattlecleat_done_with, cattlecleat_from_register,
+    CReason, cattlecleat_align, cattlecleat_done_with, cattlecleat_from_register,
     cattlecleat_take_done_reason, cattlecleat_to_register,
 };
-use std::io;
-use std::num::wrapping_add_usize;
 use std::rt::Env;
-use vector_text::course::Course;
-use vector_text::holding::hold;
-use vector_text::tokens::{BAR, token};
-use vector_text::told::Told;
+use vector_text::fault::LineError;
+use vector_text::run::Run;
+use vector_text::tokens::token;
 
-pub fn leaf(rt: &(impl Env + Print), c: Course, tokens: &[u64]) -> io::Result<Course> {
-    let word = token(tokens, 0);
-    let a = token(tokens, 1);
-    let b = token(tokens, 2);
-    match word {
-        INTO => hold(
-            rt,
-            c,
-            tokens,
-            b"bar 1   registerby type ",
-            both(cattlecleat_to_register(a, b), register_of(a, b)),
-        ),
-        FROM => hold(
-            rt,
-            c,
-            tokens,
-            b"bar 1   number  by type ",
-            both(cattlecleat_from_register(a, b), number_of(a, b)),
-        ),
-        ALIGN => hold(rt, c, tokens, b"bar 1   number  address ", aligned(a, b)),
-        _ => slot(rt, c, tokens, word),
-    }
-}
-
-// fill and take
-fn slot(rt: &(impl Env + Print), c: Course, tokens: &[u64], word: u64) -> io::Result<Course> {
-    let before = reason(tokens, 1);
-    let names = b"bar 1   number  reason  amount  slot    holds   ";
-    if word == FILL {
-        let filled = cattlecleat_done_with(before, reason(tokens, 3));
-        return hold(rt, c, tokens, names, done(4, filled));
-    }
-    let taken = cattlecleat_take_done_reason(before);
-    hold(rt, c, tokens, names, done(2, taken))
-}
+const DONE: [&str; 5] = ["number", "reason", "amount", "slot", "holds"];
 
 // What the face says, and what the type's own function does.
-fn both(face: u64, typed: u64) -> Told {
-    Told {
-        inputs: 2,
-        width: 3,
-        numbers: [BAR, face, typed, 0, 0, 0, 0, 0, 0, 0, 0, 0, 0],
-    }
+pub fn to_register<R: Env + Print>(run: &mut Run<R>, tokens: &[u64]) -> Result<(), LineError> {
+    let kind = token(tokens, 1);
+    let number = token(tokens, 2);
+    let both = [
+        cattlecleat_to_register(kind, number),
+        register_of(kind, number),
+    ];
+    run.hold(tokens, 2, &["register", "by type"], &both)
 }
 
-fn aligned(ip: u64, base: u64) -> Told {
-    let a = cattlecleat_align(ip, base);
-    Told {
-        inputs: 2,
-        width: 3,
-        numbers: [BAR, a.number, a.address, 0, 0, 0, 0, 0, 0, 0, 0, 0, 0],
-    }
+pub fn from_register<R: Env + Print>(run: &mut Run<R>, tokens: &[u64]) -> Result<(), LineError> {
+    let kind = token(tokens, 1);
+    let register = token(tokens, 2);
+    let both = [
+        cattlecleat_from_register(kind, register),
+        number_of(kind, register),
+    ];
+    run.hold(tokens, 2, &["number", "by type"], &both)
 }
 
-fn reason(tokens: &[u64], k: usize) -> CReason {
+pub fn aligned<R: Env + Print>(run: &mut Run<R>, tokens: &[u64]) -> Result<(), LineError> {
+    let a = cattlecleat_align(token(tokens, 1), token(tokens, 2));
+    run.hold(tokens, 2, &["number", "address"], &[a.number, a.address])
+}
+
+pub fn filled<R: Env + Print>(run: &mut Run<R>, tokens: &[u64]) -> Result<(), LineError> {
+    let done = cattlecleat_done_with(reason_in(tokens, 1), reason_in(tokens, 3));
+    run.hold(tokens, 4, &DONE, &done_told(done))
+}
+
+pub fn taken<R: Env + Print>(run: &mut Run<R>, tokens: &[u64]) -> Result<(), LineError> {
+    let done = cattlecleat_take_done_reason(reason_in(tokens, 1));
+    run.hold(tokens, 2, &DONE, &done_told(done))
+}
+
+fn reason_in(tokens: &[u64], at: usize) -> CReason {
     CReason {
-        kind: token(tokens, k),
-        amount: token(tokens, wrapping_add_usize(k, 1)),
-    }
-}
-
-fn done(inputs: usize, d: CDone) -> Told {
-    let reason = d.reason;
-    let slot = d.slot;
-    Told {
-        inputs,
-        width: 6,
-        numbers: [
-            BAR,
-            d.number,
-            reason.kind,
-            reason.amount,
-            slot.kind,
-            slot.amount,
-            0,
-            0,
-            0,
-            0,
-            0,
-            0,
-            0,
-        ],
+        kind: token(tokens, at),
+        amount: token(tokens, at.wrapping_add(1)),
     }
 }

@@ -1,58 +1,40 @@
 // A line by its word: something laid down, something on the trace's bytes, a leaf, or something asked of a stack.
-use crate::asking::{by_kind, lent, opened, recorded, straight, synced};
-use crate::leaves::leaf;
+use crate::asking::{asked_by_kind, asked_in_full, asked_in_record, lent, opened, synced};
+use crate::leaves::{aligned, filled, from_register, taken, to_register};
 use crate::taping::{fed, finished};
 use crate::tracing::{read, replayed, written};
-use crate::words;
-use std::io;
+use crate::words::Word;
 use std::rt::Env;
-use vector_text::course::Course;
-use vector_text::laying::{laid_byte, laid_number, laid_record, laid_state, laid_tape, telling};
+use vector_text::fault::LineError;
+use vector_text::run::Run;
 use vector_text::tokens::token;
 
-pub fn run_line(
-    rt: &(impl Env + Print),
-    c: Course,
-    words: &mut [u64],
-    cells: &mut [u64],
-    trace: &mut [u8],
-    tokens: &[u64],
-) -> io::Result<Course> {
-    let word = token(tokens, 0);
-    match word {
-        words::FULL => telling(rt, c, tokens, 1),
-        words::SUMS => telling(rt, c, tokens, 0),
-        words::STATE => laid_state(rt, c, tokens, words.len(), cells.len()),
-        words::WORD => laid_number(rt, c, words, tokens),
-        words::CELL => laid_number(rt, c, cells, tokens),
-        words::TRACE => laid_record(rt, c, trace, tokens),
-        words::BYTE => laid_byte(rt, c, trace, tokens),
-        words::TAPE => laid_tape(rt, c, tokens),
-        words::READ => read(rt, c, trace, tokens),
-        words::WRITE => written(rt, c, trace, tokens),
-        words::INTO | words::FROM | words::ALIGN | words::FILL | words::TAKE => leaf(rt, c, tokens),
-        _ => asked(rt, c, words, cells, trace, tokens, word),
+pub fn run_line<R: Env + Print>(run: &mut Run<R>, tokens: &[u64]) -> Result<(), LineError> {
+    match Word::try_from(token(tokens, 0))? {
+        Word::Full => run.tell(tokens, true)?,
+        Word::Sums => run.tell(tokens, false)?,
+        Word::State => run.lay_state(tokens)?,
+        Word::Word => run.lay_word(tokens)?,
+        Word::Cell => run.lay_cell(tokens)?,
+        Word::Trace => run.lay_record(tokens)?,
+        Word::Byte => run.lay_byte(tokens)?,
+        Word::Tape => run.lay_tape(tokens)?,
+        Word::Read => read(run, tokens)?,
+        Word::Write => written(run, tokens)?,
+        Word::Into => to_register(run, tokens)?,
+        Word::From => from_register(run, tokens)?,
+        Word::Align => aligned(run, tokens)?,
+        Word::Fill => filled(run, tokens)?,
+        Word::Take => taken(run, tokens)?,
+        Word::Open => opened(run, tokens)?,
+        Word::Ask => asked_in_full(run, tokens)?,
+        Word::Record => asked_in_record(run, tokens)?,
+        Word::Regs => synced(run, tokens)?,
+        Word::Part => lent(run, tokens)?,
+        Word::Replay => replayed(run, tokens)?,
+        Word::Feed => fed(run, tokens)?,
+        Word::Finish => finished(run, tokens)?,
+        Word::Request(kind) => asked_by_kind(run, tokens, kind)?,
     }
-}
-
-fn asked(
-    rt: &(impl Env + Print),
-    c: Course,
-    words: &mut [u64],
-    cells: &mut [u64],
-    trace: &[u8],
-    tokens: &[u64],
-    word: u64,
-) -> io::Result<Course> {
-    match word {
-        words::OPEN => opened(rt, c, words, cells, tokens),
-        words::ASK => straight(rt, c, words, cells, tokens),
-        words::RECORD => recorded(rt, c, words, cells, tokens),
-        words::REGS => synced(rt, c, words, cells, tokens),
-        words::PART => lent(rt, c, words, cells, tokens),
-        words::REPLAY => replayed(rt, c, words, cells, trace, tokens),
-        words::FEED => fed(rt, c, words, cells, trace, tokens),
-        words::FINISH => finished(rt, c, words, cells, tokens),
-        _ => by_kind(rt, c, words, cells, tokens, words::kind_of(word)),
-    }
+    Ok(())
 }

@@ -19,9 +19,10 @@ use std::env::FillError;
 use std::io::Read;
 use std::rt::{Env, Files};
 use std::{fs, io};
-use vector_text::counts::{Counts, a_bad_line_more, joined, none_of};
-use vector_text::course::{Course, faulty, fresh_course, moved_on};
+use vector_text::counts::Counts;
+use vector_text::fault::LineError;
 use vector_text::reading::read_line;
+use vector_text::run::Run;
 use vector_text::say;
 
 // Words for one frame more than the largest depth, cells for the largest counts, 32 records, and the numbers of the longest line.
@@ -45,14 +46,14 @@ fn main(rt: HostRuntime) -> io::Result<()> {
 
 // Each argument is a file of less than 65,536 bytes.
 fn run_all(rt: &(impl Files + Env + Print), text: &mut [u8]) -> io::Result<()> {
-    let mut total = none_of(0);
-    let mut files = 0;
+    let mut total = Counts::none_of(0);
+    let mut files: u64 = 0;
     for i in 1..usize::MAX {
         if !is_given(rt, i) {
             break;
         }
-        total = joined(total, run_named(rt, i, text)?);
-        files = std::num::wrapping_add_u64(files, 1);
+        total = total.joined(run_named(rt, i, text)?);
+        files = files.wrapping_add(1);
     }
     say::total(rt, files, total)
 }
@@ -68,12 +69,12 @@ fn is_given(rt: &impl Env, file: usize) -> bool {
 fn run_named(rt: &(impl Files + Env + Print), file: usize, text: &mut [u8]) -> io::Result<Counts> {
     let Ok(mut opened) = open_named(rt, file) else {
         say::missing(rt, file)?;
-        return Ok(a_bad_line_more(none_of(file)));
+        return Ok(Counts::unread(file));
     };
     let n = read_full(&mut opened, text)?;
     if n == text.len() {
         say::too_long(rt, file)?;
-        return Ok(a_bad_line_more(none_of(file)));
+        return Ok(Counts::unread(file));
     }
     run_file(rt, file, &text[..n])
 }
@@ -106,76 +107,34 @@ fn read_full(file: &mut impl Read, bytes: &mut [u8]) -> io::Result<usize>
     Ok(done)
 }
 
+// A line a turn.
 fn run_file(rt: &(impl Env + Print), file: usize, text: &[u8]) -> io::Result<Counts> {
     let mut words = [0u64; WORDS];
     let mut cells = [0u64; CELLS];
     let mut trace = [0u8; TRACE];
     let mut tokens = [0u64; TOKENS];
-    let done = run_text(
-        rt,
-        fresh_course(file),
-        &mut words,
-        &mut cells,
-        &mut trace,
-        &mut tokens,
-        text,
-    )?;
-    let counts = done.counts;
+    let mut run = Run::of_file(rt, file, &mut words, &mut cells, &mut trace);
+    for line in text.split_inclusive(|byte| *byte == b'\n') {
+        run.go_on();
+        match read_and_run(&mut run, &mut tokens, line) {
+            Ok(()) => (),
+            Err(LineError::Fault(fault)) => run.say_fault(fault)?,
+            Err(LineError::Io(e)) => return Err(e),
+        }
+    }
+    let counts = run.counts;
     say::sum(rt, counts)?;
     Ok(counts)
 }
 
-// A line a turn.
-fn run_text(
-    rt: &(impl Env + Print),
-    course: Course,
-    words: &mut [u64],
-    cells: &mut [u64],
-    trace: &mut [u8],
-    tokens: &mut [u64],
-    text: &[u8],
-) -> io::Result<Course> {
-    let mut so_far = course;
-    let mut left = text.len();
-    while 0 < left {
-        let next = left - 1;
-        so_far = run_one(rt, so_far, words, cells, trace, tokens, text)?;
-        left = turns_left(so_far.at, text, next);
-    }
-    Ok(so_far)
-}
-
-// No turn more at the end.
-fn turns_left(at: usize, text: &[u8], left: usize) -> usize
-    ensures { result ≤ left }
-{
-    if text.len() <= at {
-        return 0;
-    }
-    left
-}
-
 // A line of no numbers is a comment or empty.
-fn run_one(
-    rt: &(impl Env + Print),
-    c: Course,
-    words: &mut [u64],
-    cells: &mut [u64],
-    trace: &mut [u8],
+fn read_and_run<R: Env + Print>(
+    run: &mut Run<R>,
     tokens: &mut [u64],
-    text: &[u8],
-) -> io::Result<Course> {
-    let r = read_line(tokens, text, c.at);
-    let n = r.n;
-    let next = moved_on(c, r.next);
-    if r.fault != 0 {
-        return faulty(rt, next, r.fault);
+    line: &[u8],
+) -> Result<(), LineError> {
+    match read_line(tokens, line)? {
+        0 => Ok(()),
+        n => run_line(run, &tokens[..n.min(tokens.len())]),
     }
-    if n == 0 {
-        return Ok(next);
-    }
-    if tokens.len() < n {
-        return faulty(rt, next, say::TOO_MANY);
-    }
-    run_line(rt, next, words, cells, trace, &tokens[0..n])
 }

@@ -1,65 +1,74 @@
-// The words that a line can begin with: their letters as one number.
-pub const FULL: u64 = 0x6675_6c6c;
+// The words that a line can begin with.
+use vector_text::fault::Fault;
 
-pub const SUMS: u64 = 0x7375_6d73;
+#[derive(Clone, Copy)]
+pub enum Word {
+    Full,
+    Sums,
+    State,
+    Word,
+    Cell,
+    Trace,
+    Byte,
+    Tape,
+    Read,
+    Write,
+    Into,
+    From,
+    Align,
+    Fill,
+    Take,
+    Open,
+    Ask,
+    Record,
+    Regs,
+    Part,
+    Replay,
+    Feed,
+    Finish,
+    // A request, by its kind's number in the C face.
+    Request(u64),
+}
 
-pub const STATE: u64 = 0x73_7461_7465;
+impl TryFrom<u64> for Word {
+    type Error = Fault;
 
-pub const WORD: u64 = 0x776f_7264;
-
-pub const CELL: u64 = 0x6365_6c6c;
-
-pub const TRACE: u64 = 0x74_7261_6365;
-
-pub const BYTE: u64 = 0x6279_7465;
-
-pub const OPEN: u64 = 0x6f70_656e;
-
-pub const ASK: u64 = 0x61_736b;
-
-pub const RECORD: u64 = 0x7265_636f_7264;
-
-pub const REGS: u64 = 0x7265_6773;
-
-pub const PART: u64 = 0x7061_7274;
-
-pub const REPLAY: u64 = 0x7265_706c_6179;
-
-pub const TAPE: u64 = 0x7461_7065;
-
-pub const FEED: u64 = 0x6665_6564;
-
-pub const FINISH: u64 = 0x6669_6e69_7368;
-
-pub const READ: u64 = 0x7265_6164;
-
-pub const WRITE: u64 = 0x77_7269_7465;
-
-pub const INTO: u64 = 0x696e_746f;
-
-pub const FROM: u64 = 0x6672_6f6d;
-
-pub const ALIGN: u64 = 0x61_6c69_676e;
-
-pub const FILL: u64 = 0x6669_6c6c;
-
-pub const TAKE: u64 = 0x7461_6b65;
-
-// A word that is none of the nine requests'.
-pub const NO_KIND: u64 = 0;
-
-// push pop replace host return sync restore reset set
-pub fn kind_of(word: u64) -> u64 {
-    match word {
-        0x7075_7368 => 1,
-        0x70_6f70 => 2,
-        0x72_6570_6c61_6365 => 3,
-        0x686f_7374 => 4,
-        0x7265_7475_726e => 5,
-        0x7379_6e63 => 6,
-        0x72_6573_746f_7265 => 7,
-        0x72_6573_6574 => 8,
-        0x73_6574 => 9,
-        _ => NO_KIND,
+    // A word's letters are the bytes of its number.
+    fn try_from(number: u64) -> Result<Word, Fault> {
+        Ok(match &number.to_be_bytes() {
+            b"\0\0\0\0full" => Word::Full,
+            b"\0\0\0\0sums" => Word::Sums,
+            b"\0\0\0state" => Word::State,
+            b"\0\0\0\0word" => Word::Word,
+            b"\0\0\0\0cell" => Word::Cell,
+            b"\0\0\0trace" => Word::Trace,
+            b"\0\0\0\0byte" => Word::Byte,
+            b"\0\0\0\0tape" => Word::Tape,
+            b"\0\0\0\0read" => Word::Read,
+            b"\0\0\0write" => Word::Write,
+            b"\0\0\0\0into" => Word::Into,
+            b"\0\0\0\0from" => Word::From,
+            b"\0\0\0align" => Word::Align,
+            b"\0\0\0\0fill" => Word::Fill,
+            b"\0\0\0\0take" => Word::Take,
+            b"\0\0\0\0open" => Word::Open,
+            b"\0\0\0\0\0ask" => Word::Ask,
+            b"\0\0record" => Word::Record,
+            b"\0\0\0\0regs" => Word::Regs,
+            b"\0\0\0\0part" => Word::Part,
+            b"\0\0replay" => Word::Replay,
+            b"\0\0\0\0feed" => Word::Feed,
+            b"\0\0finish" => Word::Finish,
+            b"\0\0\0\0push" => Word::Request(1),
+            b"\0\0\0\0\0pop" => Word::Request(2),
+            b"\0replace" => Word::Request(3),
+            b"\0\0\0\0host" => Word::Request(4),
+            b"\0\0return" => Word::Request(5),
+            b"\0\0\0\0sync" => Word::Request(6),
+            b"\0restore" => Word::Request(7),
+            b"\0\0\0reset" => Word::Request(8),
+            b"\0\0\0\0\0set" => Word::Request(9),
+            _ => return Err(Fault::NoSuchWord),
+        })
     }
 }

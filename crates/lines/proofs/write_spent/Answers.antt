@@ -7,8 +7,8 @@ use Rattle.lines.proofs.Texts.{text_put_none}
 use Rattle.lines.proofs.Laying.{laid_put, laid_word}
 use Rattle.lines.proofs.write_spent.Goals as goal
 
-pub returns-then-bytes_left-lt-LONGEST_LINE : goal.returns-then-bytes_left-lt-LONGEST_LINE
-returns-then-bytes_left-lt-LONGEST_LINE c =
+pub returns-then-saturating_sub-lt-LONGEST_LINE : goal.returns-then-saturating_sub-lt-LONGEST_LINE
+returns-then-saturating_sub-lt-LONGEST_LINE c =
     sym (text_put_none _ _ _ (omega arith))
 
 pub returns : goal.returns

@@ -6,13 +6,13 @@ use Rattle.choice.proofs.Choices.{choices}
 use Rattle.record.specs.Reading.{fields_in}
 use Rattle.record.proofs.fields_in.Goals as goal
 
-pub returns-then-u32_at-gt0 : goal.returns-then-u32_at-gt0
+pub returns-then-spare-gt0 : goal.returns-then-spare-gt0
 unfolding fields_in
-returns-then-u32_at-gt0 c =
-    rw (sym c.u32_at.ensures) (search choices)
+returns-then-spare-gt0 c =
+    rw (sym c.spare.ensures) (search choices)
 
 pub returns : goal.returns
 unfolding fields_in
 returns c =
-    let none : c.u32_at.result < 1 = omega arith in
-    rw (sym c.u32_at.ensures, sym c.decode-r.ensures) (search choices)
+    let none : c.spare.result < 1 = omega arith in
+    rw (sym c.spare.ensures, sym c.decode-r.ensures) (search choices)

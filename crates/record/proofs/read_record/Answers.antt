@@ -1,15 +1,14 @@
 -- `record::read_record` meets its contract: the numbers are read, then the rules of the kind are asked. Assumes nothing.
-use mathlib.Core.Path.{ap, sym, ◌∙◌}
-use Rattle.record.specs.Reading.{shown_read}
+use mathlib.Core.Path.{◌∙◌}
+use Rattle.std.proofs.lemmas.Result.{err_from_is_err_and}
 use Rattle.record.proofs.Reading.{fields_bad, fields_found}
 use Rattle.record.proofs.read_record.Goals as goal
 
-pub returns-in-Found : goal.returns-in-Found
-returns-in-Found c =
-    let found = sym (ap shown_read c.in-Found.is) ∙ c.read_fields.ensures in
-    c.found_lawful.ensures ∙ fields_found _ _ _ found
+pub returns-in_err-read_fields : goal.returns-in_err-read_fields
+returns-in_err-read_fields c =
+    let failed = err_from_is_err_and c.from_residual.result c.from_residual.ensures.1 in
+    rw failed.1 (fields_bad _ _ c.in_err-read_fields.ensures)
 
-pub returns-in-Bad : goal.returns-in-Bad
-returns-in-Bad c =
-    let bad = sym (ap shown_read c.in-Bad.is) ∙ c.read_fields.ensures in
-    fields_bad _ _ bad
+pub returns : goal.returns
+returns c =
+    c.found_lawful.ensures ∙ fields_found _ _ _ c.in_ok-read_fields.ensures

@@ -1,4 +1,4 @@
--- The loop of `runs::clear`: what is left to clear comes to what there was to clear, and the length is kept. What is left falls.
+-- The loop of `runs::clear`: what is left to clear comes to what there was to clear, and the length is kept.
 use Rattle.std.proofs.Common.{◌-◌, ◌≡◌, length, replicate}
 use Rattle.std.proofs.lemmas.List.Edits.{sets}
 use Rattle.runs.proofs.clear.Given as goal
@@ -8,6 +8,3 @@ invariant-loop-i l = record {
   size : length l.cells ≡ length l.fn.cells;
   left : sets l.cells l.i (replicate (l.to - l.i) 0) ≡ sets l.fn.cells l.from (replicate (l.to - l.from) 0);
 }
-
-abbrev pub decreases-loop-i : goal.decreases-loop-i
-decreases-loop-i l = l.end - l.i

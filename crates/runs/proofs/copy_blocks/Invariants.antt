@@ -1,4 +1,4 @@
--- The loop of `runs::copy_blocks`: what is left to copy comes to what there was to copy, and the length is kept. What is left falls.
+-- The loop of `runs::copy_blocks`: what is left to copy comes to what there was to copy, and the length is kept.
 use Rattle.std.proofs.Common.{◌≡◌, ◌+◌, ◌-◌, length}
 use Rattle.runs.specs.Runs.{copied}
 use Rattle.runs.proofs.copy_blocks.Given as goal
@@ -8,6 +8,3 @@ invariant-loop-k l = record {
   size : length l.cells ≡ length l.fn.cells;
   rest : copied l.cells (l.from + l.k) (l.to + l.k) (l.n - l.k) ≡ copied l.fn.cells l.from l.to l.n;
 }
-
-abbrev pub decreases-loop-k : goal.decreases-loop-k
-decreases-loop-k l = l.n - l.k

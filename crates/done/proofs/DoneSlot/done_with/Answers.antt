@@ -1,12 +1,12 @@
--- `done::DoneSlot::done_with` meets its contract: each arm is given which constructor the slot is. Assumes nothing.
-use Rattle.choice.specs.Choose.{choose}
+-- `done::DoneSlot::done_with` meets its contract: each return is given whether the slot is filled. Assumes nothing.
+use Rattle.choice.proofs.Choices.{choices}
 use Rattle.done.specs.Done.{fill_tests, filled}
 use Rattle.done.proofs.DoneSlot.done_with.Goals as goal
 
-pub returns-in-Empty : goal.returns-in-Empty
-unfolding choose fill_tests filled
-returns-in-Empty c = rw c.in-Empty.is
+pub returns-then-is_some : goal.returns-then-is_some
+unfolding fill_tests filled
+returns-then-is_some c = search choices
 
-pub returns-in-Holds : goal.returns-in-Holds
-unfolding choose fill_tests filled
-returns-in-Holds c = rw c.in-Holds.is
+pub returns : goal.returns
+unfolding fill_tests filled
+returns c = search choices

@@ -1,12 +1,14 @@
--- `done::DoneSlot::take_done_reason` meets its contract: each arm is given which constructor the slot is. Assumes nothing.
+-- `done::DoneSlot::take_done_reason` meets its contract: with a reason, and without. Assumes nothing.
+use Rattle.std.proofs.Common.{◌≡◌, refl, Option, Some, None, ok_or}
 use Rattle.choice.specs.Choose.{choose}
-use Rattle.done.specs.Done.{take_tests, taken}
+use Rattle.done.specs.declared.DoneReason.{DoneReason}
+use Rattle.done.specs.Done.{no_reason, shown_take, take_tests, taken}
 use Rattle.done.proofs.DoneSlot.take_done_reason.Goals as goal
 
-pub returns-in-Empty : goal.returns-in-Empty
+out : (o : Option DoneReason) → shown_take (ok_or o (record {})) no_reason ≡ taken (record { reason = o })
 unfolding choose take_tests taken
-returns-in-Empty c = rw c.in-Empty.is
+out None = refl
+out (Some r) = refl
 
-pub returns-in-Holds : goal.returns-in-Holds
-unfolding choose take_tests taken
-returns-in-Holds c = rw c.in-Holds.is
+pub returns : goal.returns
+returns c = rw (c.ok_or.ensures.value, c.empty.ensures) (out c.args.self.reason)

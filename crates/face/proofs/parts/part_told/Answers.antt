@@ -2,11 +2,11 @@
 use Rattle.face.proofs.Lent.{refused_told, accepted_told}
 use Rattle.face.proofs.parts.part_told.Goals as goal
 
-pub returns-in-Refuse : goal.returns-in-Refuse
-returns-in-Refuse c =
-    refused_told _ _ _ c.judge_host_part.ensures _ _ _ c.in-Refuse.is
-    c.refusal_number.ensures c.part.ensures
+pub returns-in-Err : goal.returns-in-Err
+returns-in-Err c =
+    refused_told _ _ _ c.judge_host_part.ensures _ _ _ c.in-Err.is
+    c.from.ensures c.part.ensures
 
-pub returns-in-Accept : goal.returns-in-Accept
-returns-in-Accept c =
-    accepted_told _ _ _ c.judge_host_part.ensures _ _ c.in-Accept.is c.frame_lent.ensures
+pub returns-in-Ok : goal.returns-in-Ok
+returns-in-Ok c =
+    accepted_told _ _ _ c.judge_host_part.ensures _ _ c.in-Ok.is c.frame_lent.ensures

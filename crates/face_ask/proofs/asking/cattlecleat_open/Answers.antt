@@ -4,5 +4,5 @@ use Rattle.face_ask.proofs.asking.cattlecleat_open.Goals as goal
 
 pub returns : goal.returns
 returns c =
-    opening_is_told c.open-out.result _ _ _ c.state_to.ensures c.outcome_told.ensures
+    opening_is_told c.open-out.result _ _ _ c.from.ensures c.outcome_told.ensures
     c.open-out.ensures

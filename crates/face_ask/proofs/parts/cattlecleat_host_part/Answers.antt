@@ -5,4 +5,4 @@ use Rattle.face_ask.proofs.parts.cattlecleat_host_part.Goals as goal
 
 pub returns : goal.returns
 returns c =
-    c.part_told.ensures ∙ part_told_at _ _ c.state_from.ensures _ _ _ _ refl
+    c.part_told.ensures ∙ part_told_at _ _ c.from.ensures _ _ _ _ refl

@@ -4,10 +4,11 @@ use Rattle.face_leaves.specs.Addresses.{aligned_told}
 use Rattle.regs.specs.Align.{shown_aligned}
 use Rattle.face_leaves.proofs.leaves.cattlecleat_align.Goals as goal
 
-pub returns-in-At : goal.returns-in-At
-returns-in-At c =
-    ap (λ a. aligned_told (shown_aligned a)) (sym c.in-At.is) ∙ ap aligned_told c.align_relative_to.ensures
+pub returns-in-Ok : goal.returns-in-Ok
+returns-in-Ok c =
+    ap (λ a. aligned_told (shown_aligned a)) (sym c.in-Ok.is) ∙ ap aligned_told c.align_relative_to.ensures
 
-pub returns-in-Refused : goal.returns-in-Refused
-returns-in-Refused c =
-    ap (λ a. aligned_told (shown_aligned a)) (sym c.in-Refused.is) ∙ ap aligned_told c.align_relative_to.ensures
+pub returns-in-Err : goal.returns-in-Err
+returns-in-Err c =
+    rw c.into.ensures
+    (ap (λ a. aligned_told (shown_aligned a)) (sym c.in-Err.is) ∙ ap aligned_told c.align_relative_to.ensures)

@@ -5,5 +5,5 @@ use Rattle.face_replay.proofs.tapes.cattlecleat_finish.Goals as goal
 
 pub returns : goal.returns
 returns c =
-    tape_is_told _ c.args.t c.finish.result _ _ _ c.tape_back.ensures
-    (c.finish.ensures ∙ finish_at _ _ c.tape_from.ensures _ _)
+    tape_is_told _ c.args.t _ _ _ _ c.tape_back.ensures
+    (c.finish.ensures ∙ finish_at _ _ c.from-tape.ensures _ _)

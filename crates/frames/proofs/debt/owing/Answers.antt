@@ -2,6 +2,6 @@
 use Rattle.frames.specs.Debts.{owing_of}
 use Rattle.frames.proofs.debt.owing.Goals as goal
 
-pub returns-in-Absent : goal.returns-in-Absent
+pub returns-in-None : goal.returns-in-None
 unfolding owing_of
-returns-in-Absent c = rw c.in-Absent.is
+returns-in-None c = rw c.in-None.is

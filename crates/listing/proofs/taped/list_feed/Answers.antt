@@ -1,43 +1,42 @@
 -- `listing::taped::list_feed` meets its contract: at each return the tests that led there say which case holds. Assumes nothing.
 use borrow.Author.Rules.{rules}
 use borrow.Author.Tests.{ltb-false}
-use mathlib.Core.Path.{◌≡◌, sym, ◌∙◌}
-use lib.Dec.{ltb}
-use lib.ListN.{length}
+use mathlib.Core.Path.{sym, ap, ◌∙◌}
+use Rattle.std.specs.Prelude.{Ok}
 use Rattle.tape.specs.Tapes.{taping_of}
-use Rattle.listing.specs.Taped.{block_lines_room}
-use Rattle.listing.proofs.Answering.{room_found, lines_still, lines_refused_lem, lines_narrow, lines_go}
+use Rattle.tape.proofs.Feeds.{asked_rests, asked_refused, asked_goes}
+use Rattle.listing.proofs.Answering.{room_found, lines_number, lines_still, lines_refused_lem, lines_narrow, lines_go}
 use Rattle.listing.proofs.taped.list_feed.Goals as goal
 
-pub returns-then-is_given-block : goal.returns-then-is_given-block
-returns-then-is_given-block c =
-    lines_still _ _ _ _ c.is_given.ensures c.if-is_given-block.true
+pub returns-in_err-rests : goal.returns-in_err-rests
+returns-in_err-rests c =
+    let t = taping_of c.args.t.now c.args.words.now c.args.cells.now in
+    let asked = asked_refused _ _ _ c.rests.ensures _ c.in_err-rests.was in
+    lines_number _ t c.args.out.now c.from_residual.ensures.1 ∙ lines_refused_lem t _ _ asked.0 asked.1.0 asked.1.1
 
-pub returns-then-t : goal.returns-then-t
-returns-then-t c =
-    lines_refused_lem _ _ _ _ c.is_given.ensures c.if-is_given-block.false c.if-t.true
+pub returns-then-branch : goal.returns-then-branch
+returns-then-branch c =
+    lines_still (taping_of c.args.t.now c.args.words.now c.args.cells.now) _ _
+    (asked_rests _ _ _ c.rests.ensures (c.in_ok-rests.was ∙ ap Ok c.if-branch.true))
 
 pub returns-then-is_narrow_behind : goal.returns-then-is_narrow_behind
 returns-then-is_narrow_behind c =
-    -- what the code finds of the room
-    let found : c.is_narrow_behind.result ≡ ltb (length c.args.out.now) (block_lines_room (taping_of c.args.t c.args.words.now c.args.cells.now) c.args.block.now) =
-    room_found (taping_of c.args.t c.args.words.now c.args.cells.now) c.args.block.now c.args.out.now (search rules)
-    c.is_narrow_behind.result c.is_narrow_behind.ensures in
-    lines_narrow _ _ _ _ c.is_given.ensures c.if-is_given-block.false c.if-t.false _ found c.if-is_narrow_behind.true
+    let t = taping_of c.args.t.now c.args.words.now c.args.cells.now in
+    let asked = asked_goes _ _ _ c.rests.ensures (c.in_ok-rests.was ∙ ap Ok c.if-branch.false) in
+    lines_narrow t _ _ asked.0 asked.1.0 asked.1.1 _
+    (room_found t c.args.block.now c.args.out.now (search rules) c.is_narrow_behind.result c.is_narrow_behind.ensures)
+    c.if-is_narrow_behind.true
 
 pub list_cut-requires : goal.list_cut-requires
 list_cut-requires c =
-    -- what the code finds of the room
-    let found : c.is_narrow_behind.result ≡ ltb (length c.args.out.now) (block_lines_room (taping_of c.args.t c.args.words.now c.args.cells.now) c.args.block.now) =
-    room_found (taping_of c.args.t c.args.words.now c.args.cells.now) c.args.block.now c.args.out.now (search rules)
-    c.is_narrow_behind.result c.is_narrow_behind.ensures in
+    let t = taping_of c.args.t.now c.args.words.now c.args.cells.now in
+    let found = room_found t c.args.block.now c.args.out.now (search rules) c.is_narrow_behind.result c.is_narrow_behind.ensures in
     ltb-false _ _ (sym found ∙ c.if-is_narrow_behind.false)
 
 pub returns : goal.returns
 returns c =
-    -- what the code finds of the room
-    let found : c.is_narrow_behind.result ≡ ltb (length c.args.out.now) (block_lines_room (taping_of c.args.t c.args.words.now c.args.cells.now) c.args.block.now) =
-    room_found (taping_of c.args.t c.args.words.now c.args.cells.now) c.args.block.now c.args.out.now (search rules)
-    c.is_narrow_behind.result c.is_narrow_behind.ensures in
-    lines_go _ _ _ _ c.is_given.ensures c.if-is_given-block.false c.if-t.false _ found
+    let t = taping_of c.args.t.now c.args.words.now c.args.cells.now in
+    let asked = asked_goes _ _ _ c.rests.ensures (c.in_ok-rests.was ∙ ap Ok c.if-branch.false) in
+    lines_go t _ _ asked.0 asked.1.0 asked.1.1 _
+    (room_found t c.args.block.now c.args.out.now (search rules) c.is_narrow_behind.result c.is_narrow_behind.ensures)
     c.if-is_narrow_behind.false _ c.list_cut.ensures

@@ -1,46 +1,39 @@
--- `record::form::spell` meets its contract. The invariant of its loop: what is left to write comes to what there was to write, and reaches to
--- byte 40; the length is kept. The measure is what is left. Assumes nothing.
-use mathlib.Core.Path.{◌≡◌, refl, ap, ◌∙◌}
-use Prim.Native.Nat.{◌+◌, ◌≤◌, ◌<◌}
+-- `record::form::spell` meets its contract: each number is written behind the one before. Assumes nothing.
+use mathlib.Core.Path.{◌≡◌, refl, sym, ap, ◌∙◌}
+use mathlib.Core.List.{[], ◌∷◌, ◌++◌}
+use Prim.Native.Nat.{◌%◌}
 use native.Mathlib.Omega.{arith}
-use borrow.Author.Rules.{rules}
-use lib.ListN.{length, get_or}
-use lib.Seq.{length-sets}
+use lib.ListN.{drop}
+use lib.Seq.{sets}
 use Rattle.runs.proofs.Lists.{sets_whole}
 use Rattle.record.specs.Numbers.{number_bytes}
-use Rattle.record.specs.Form.{record_widths, record_size, record_numbers, record_bytes}
-use Rattle.record.proofs.Spelling.{width_turn, numbers_turn}
+use Rattle.record.specs.Form.{record_bytes}
+use Rattle.record.proofs.Spelling.{bytes_low, written_on}
 use Rattle.record.proofs.form.spell.Goals as goal
-
-pub loop-k-init : goal.loop-k-init
-loop-k-init c =
-    (search rules, search rules, refl, refl)
-
-pub put_number-requires : goal.put_number-requires
-put_number-requires c =
-    let t = width_turn c.loop-k.at c.loop-k.k record_widths _ (omega arith) c.loop-k.invariant.2 in
-    let fits : c.loop-k.at + get_or record_widths c.loop-k.k 0 ≤ record_size = omega (arith, t) in
-    search rules
-
-pub overflow_add-at : goal.overflow_add-at
-overflow_add-at c =
-    let t = width_turn c.loop-k.at c.loop-k.k record_widths _ (omega arith) c.loop-k.invariant.2 in
-    let fits : c.loop-k.at + get_or record_widths c.loop-k.k 0 ≤ record_size = omega (arith, t) in
-    search rules
-
-pub loop-k-preserved : goal.loop-k-preserved
-loop-k-preserved c =
-    let r = c.args.r in
-    let h : c.loop-k.k < length record_widths = omega arith in
-    let spelt = number_bytes (get_or record_widths c.loop-k.k 0) (get_or (record_numbers r) c.loop-k.k 0) in
-    let wrote = c.put_number.ensures in (
-      ap length wrote ∙ length-sets c.loop-k.part c.loop-k.at spelt ∙ c.loop-k.invariant.0,
-      omega arith,
-      width_turn c.loop-k.at c.loop-k.k record_widths _ h c.loop-k.invariant.2,
-      rw wrote (numbers_turn c.loop-k.at c.loop-k.k record_widths c.loop-k.part (record_numbers r) _ h h c.loop-k.invariant.3),
-    )
 
 pub returns : goal.returns
 returns c =
-    let done : c.loop-k.k ≡ length record_widths = omega arith in
-    (rw done at c.loop-k.invariant.3) ∙ sets_whole (record_bytes c.args.r) c.args.part.now (search rules)
+    let r = c.args.r in
+    let l = c.args.part.now in
+    let at_kind = r.kind ∷ r.flags ∷ [] in
+    let wrote_head = written_on l at_kind (number_bytes 2 r.head) c.put.ensures refl (c.put-2.ensures ∙ ap (sets _ _) (c.to_le_bytes.ensures ∙ bytes_low 2 r.head)) in
+    let at_head = at_kind ++ number_bytes 2 r.head in
+    let wrote_params = written_on l at_head (number_bytes 2 r.params) wrote_head refl (c.put-3.ensures ∙ ap (sets _ _) (c.to_le_bytes-2.ensures ∙ bytes_low 2 r.params)) in
+    let at_params = at_head ++ number_bytes 2 r.params in
+    let wrote_locals = written_on l at_params (number_bytes 2 r.locals) wrote_params refl (c.put-4.ensures ∙ ap (sets _ _) (c.to_le_bytes-3.ensures ∙ bytes_low 2 r.locals)) in
+    let at_locals = at_params ++ number_bytes 2 r.locals in
+    let wrote_slots = written_on l at_locals (number_bytes 2 r.slots) wrote_locals refl (c.put-5.ensures ∙ ap (sets _ _) (c.to_le_bytes-4.ensures ∙ bytes_low 2 r.slots)) in
+    let at_slots = at_locals ++ number_bytes 2 r.slots in
+    let wrote_results = written_on l at_slots (number_bytes 2 r.results) wrote_slots refl (c.put-6.ensures ∙ ap (sets _ _) (c.to_le_bytes-5.ensures ∙ bytes_low 2 r.results)) in
+    let at_results = at_slots ++ number_bytes 2 r.results in
+    let wrote_zeros = written_on l at_results (number_bytes 4 0) wrote_results refl c.put-7.ensures in
+    let at_zeros = at_results ++ number_bytes 4 0 in
+    let wrote_word1 = written_on l at_zeros (number_bytes 8 r.word1) wrote_zeros refl (c.put-8.ensures ∙ ap (sets _ _) (c.to_le_bytes-6.ensures ∙ bytes_low 8 r.word1)) in
+    let at_word1 = at_zeros ++ number_bytes 8 r.word1 in
+    let wrote_word2 = written_on l at_word1 (number_bytes 8 r.word2) wrote_word1 refl (c.put-9.ensures ∙ ap (sets _ _) (c.to_le_bytes-7.ensures ∙ bytes_low 8 r.word2)) in
+    let at_word2 = at_word1 ++ number_bytes 8 r.word2 in
+    let wrote_word3 = written_on l at_word2 (number_bytes 8 r.word3) wrote_word2 refl (c.put-10.ensures ∙ ap (sets _ _) (c.to_le_bytes-8.ensures ∙ bytes_low 8 r.word3)) in
+    let at_word3 = at_word2 ++ number_bytes 8 r.word3 in
+    let kind : r.kind ≡ r.kind % 256 = omega arith in
+    let flags : r.flags ≡ r.flags % 256 = omega arith in
+    wrote_word3 ∙ sets_whole at_word3 l (sym c.requires) ∙ (λ i. kind i ∷ flags i ∷ drop 2 (record_bytes r))

@@ -6,11 +6,11 @@ use Rattle.replay.proofs.Arms.{arm_bad}
 use Rattle.replay.proofs.ByKind.{request_says}
 use Rattle.replay.proofs.run.run_entry.Goals as goal
 
-pub returns-in-Asks : goal.returns-in-Asks
-returns-in-Asks c =
+pub returns-in-Ok : goal.returns-in-Ok
+returns-in-Ok c =
     c.kind_turn.ensures
-    ∙ ap (ran_on _) (ap entry_for c.record_of.ensures ∙ request_says _ ∙ sym c.in-Asks.is)
+    ∙ ap (ran_on _) (ap entry_for c.record_of.ensures ∙ request_says _ ∙ sym c.in-Ok.is)
 
-pub returns-in-Bad : goal.returns-in-Bad
-returns-in-Bad c =
-    arm_bad c.args.f c.args.m _ _ _ c.refused_at.ensures _ (sym c.in-Bad.is)
+pub returns-in-Err : goal.returns-in-Err
+returns-in-Err c =
+    arm_bad c.args.f c.args.m _ _ _ c.refused_at.ensures _ (sym c.in-Err.is)

@@ -1,15 +1,10 @@
--- `replay::trace::replay` meets its contract: what is left to run from the place reached comes to what there was to run. Assumes nothing.
-use Rattle.std.proofs.Common.{◌≡◌, ◌-◌, length}
-use Rattle.request.specs.Entries.{entries_left}
-use Rattle.replay.specs.Running.{ran_all, replayed}
+-- `replay::trace::replay` meets its contract: what is left to say comes to what there was to run. Assumes nothing.
+use Rattle.std.proofs.Common.{◌≡◌}
+use Rattle.replay.specs.Running.{running_of, ran_all, replayed}
 use Rattle.replay.specs.Packing.{running_again}
+use Rattle.replay.proofs.Turns.{left_to_say}
 use Rattle.replay.proofs.trace.replay.Given as goal
 
-abbrev pub invariant-loop-at : goal.invariant-loop-at
-invariant-loop-at l =
-    (length l.words ≡ length l.initial.words) × (length l.cells ≡ length l.initial.cells)
-    × (ran_all (running_again l.f l.m l.words l.cells) (entries_left l.bytes l.at) ≡ replayed (running_again l.f l.initial.m l.initial.words l.initial.cells) l.bytes)
-
-abbrev pub decreases-loop-at : goal.decreases-loop-at
-decreases-loop-at l =
-    length l.bytes - l.at
+abbrev pub invariant-loop-record : goal.invariant-loop-record
+invariant-loop-record l =
+    ran_all (running_again l.f l.m l.words l.cells) (left_to_say l.records l.record-index l.rest) ≡ replayed (running_of l.fn.run l.fn.words l.fn.cells) l.fn.bytes

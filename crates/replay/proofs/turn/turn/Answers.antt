@@ -7,13 +7,13 @@ use Rattle.replay.proofs.Arms.{arm_bad}
 use Rattle.replay.proofs.ByKind.{fields_say_lem, fields_say_none}
 use Rattle.replay.proofs.turn.turn.Goals as goal
 
-pub returns-in-Found : goal.returns-in-Found
-returns-in-Found c =
-    let found = sym (ap shown_read c.in-Found.is) ∙ c.read_fields.ensures in
+pub returns-in-Ok : goal.returns-in-Ok
+returns-in-Ok c =
+    let found = sym (ap shown_read c.in-Ok.is) ∙ c.read_fields.ensures in
     c.kind_turn.ensures
     ∙ ap (ran_on (running_again c.args.f c.args.m c.args.words.now c.args.cells.now)) (fields_say_lem c.args.bytes.now c.args.at (search rules) _ found)
 
-pub returns-in-Bad : goal.returns-in-Bad
-returns-in-Bad c =
-    let none = sym (ap shown_read c.in-Bad.is) ∙ c.read_fields.ensures in
+pub returns-in-Err : goal.returns-in-Err
+returns-in-Err c =
+    let none = sym (ap shown_read c.in-Err.is) ∙ c.read_fields.ensures in
     arm_bad c.args.f c.args.m _ _ _ c.refused_at.ensures _ (fields_say_none c.args.bytes.now c.args.at (search rules) none)

@@ -13,9 +13,9 @@ unfolding restore_tests top_room
 returns-then-count-eq0 c =
     search choices
 
-pub returns-then-not-is_given : goal.returns-then-not-is_given
+pub returns-then-not-is_some : goal.returns-then-not-is_some
 unfolding restore_tests top_room
-returns-then-not-is_given c =
+returns-then-not-is_some c =
     search choices
 
 pub returns : goal.returns

@@ -8,7 +8,7 @@ pub returns : goal.returns
 unfolding restored
 returns c =
     after_same _ _ _ _ _ _ _ _
-    (rw (c.no_host.ensures, c.given_number.ensures, c.read_row-top.ensures, c.from_top.ensures))
+    (rw (c.no_host.ensures, c.unwrap_or.ensures, c.read_row-top.ensures, c.from_top.ensures))
     refl
     refl
     refl

@@ -11,4 +11,4 @@ returns-then-frames-eq1 c =
 pub returns : goal.returns
 unfolding instance_after
 returns c =
-    rw (c.or_else.ensures, c.debt_of.ensures) (search choices)
+    rw (c.or.ensures, c.debt_of.ensures) (search choices)

@@ -3,4 +3,4 @@ use Rattle.stack.proofs.shared.is_stray_ip.Goals as goal
 
 pub returns : goal.returns
 returns c =
-    rw c.is_given.ensures
+    rw c.is_some.ensures

@@ -14,8 +14,8 @@ unfolding returned_to
 returns c =
     rw (
       c.zeroed.ensures,
-      c.given_number.ensures,
-      c.or_else-woken.ensures,
+      c.unwrap_or.ensures,
+      c.or-woken.ensures,
       c.debt_of.ensures,
       sym c.from_top.ensures,
       sym c.read_row-next.ensures,

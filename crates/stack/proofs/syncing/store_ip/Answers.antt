@@ -3,13 +3,13 @@ use Rattle.rules.specs.Shared.{ip_stored}
 use mathlib.Core.Path.{sym}
 use Rattle.stack.proofs.syncing.store_ip.Goals as goal
 
-pub returns-in-Absent : goal.returns-in-Absent
+pub returns-in-None : goal.returns-in-None
 unfolding ip_stored
-returns-in-Absent c =
-    rw c.in-Absent.is
+returns-in-None c =
+    rw c.in-None.is
 
-pub returns-in-Value : goal.returns-in-Value
+pub returns-in-Some : goal.returns-in-Some
 unfolding ip_stored
-returns-in-Value c =
-    rw (c.in-Value.is, sym c.from_top.ensures)
+returns-in-Some c =
+    rw (c.in-Some.is, sym c.from_top.ensures)
     c.sync_ip.ensures

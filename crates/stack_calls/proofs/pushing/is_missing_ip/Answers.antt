@@ -3,4 +3,4 @@ use Rattle.stack_calls.proofs.pushing.is_missing_ip.Goals as goal
 
 pub returns : goal.returns
 returns c =
-    rw c.is_given.ensures
+    rw c.is_some.ensures

@@ -9,7 +9,7 @@ unfolding pushed
 returns c =
     after_same _ _ _ _ _ _ _ _
     c.at_offset.ensures
-    (rw (sym c.or_else.ensures) c.moved_state.ensures)
+    (rw (sym c.or.ensures) c.moved_state.ensures)
     (rw (
       sym c.owing.ensures,
       sym c.new_row.ensures,

@@ -2,11 +2,11 @@
 use Rattle.stack_calls.proofs.Tails.{tail_refused, tail_accepted}
 use Rattle.stack_calls.proofs.replacing.judge_params.Goals as goal
 
-pub returns-in-Refuse : goal.returns-in-Refuse
-returns-in-Refuse c =
-    tail_refused c.args.s c.args.some c.args.start c.args.end c.args.far _ c.judge_growth.ensures _ c.in-Refuse.is
+pub returns-in-Err : goal.returns-in-Err
+returns-in-Err c =
+    tail_refused c.args.s c.args.some c.args.start c.args.end c.args.far _ c.judge_growth.ensures _ c.in-Err.is
 
-pub returns-in-Accept : goal.returns-in-Accept
-returns-in-Accept c =
+pub returns-in-Ok : goal.returns-in-Ok
+returns-in-Ok c =
     tail_accepted c.args.s c.args.some c.args.start c.args.end c.args.far _ c.judge_growth.ensures _
-    c.in-Accept.is _ c.judge_far.ensures
+    c.in-Ok.is _ c.judge_far.ensures

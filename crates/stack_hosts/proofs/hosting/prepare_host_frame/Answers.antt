@@ -2,10 +2,10 @@
 use Rattle.rules.proofs.Judgements.{refused_answer, accepted_answer}
 use Rattle.stack_hosts.proofs.hosting.prepare_host_frame.Goals as goal
 
-pub returns-in-Refuse : goal.returns-in-Refuse
-returns-in-Refuse c =
-    refused_answer _ _ _ c.judge_host.ensures _ _ c.in-Refuse.is c.refused.ensures
+pub returns-in-Err : goal.returns-in-Err
+returns-in-Err c =
+    refused_answer _ _ _ c.judge_host.ensures _ _ c.in-Err.is c.refused.ensures
 
-pub returns-in-Accept : goal.returns-in-Accept
-returns-in-Accept c =
-    accepted_answer _ _ _ c.judge_host.ensures _ _ c.in-Accept.is c.step_host.ensures
+pub returns-in-Ok : goal.returns-in-Ok
+returns-in-Ok c =
+    accepted_answer _ _ _ c.judge_host.ensures _ _ c.in-Ok.is c.step_host.ensures

@@ -1,18 +1,11 @@
--- `stack_hosts::routine::sum_of` meets its contract. The invariant of its loop: the sum is that of the cells from the place on. The measure is that
--- place. Assumes nothing.
-use Rattle.std.proofs.Common.{arith, rules}
-use Rattle.stack_hosts.proofs.Sums.{sum_none, sum_turn, sum_all}
+-- `stack_hosts::routine::sum_of` meets its contract: what the fold over the cells from the last to the first comes to. Assumes nothing.
+use Rattle.std.proofs.Common.{◌∙◌, rules}
+use Rattle.std.proofs.lemmas.Iterator.Adapters.{YieldsList-from_rev_slice}
+use Rattle.std.proofs.lemmas.Iterator.Consumers.{fold_from_yields_List}
+use Rattle.stack_hosts.proofs.Sums.{wrapped_plus, sum_folded}
 use Rattle.stack_hosts.proofs.routine.sum_of.Goals as goal
-
-pub loop-left-init : goal.loop-left-init
-loop-left-init c =
-    (search rules, sum_none c.args.params.now)
-
-pub loop-left-preserved : goal.loop-left-preserved
-loop-left-preserved c =
-    let params = c.args.params.now in
-    (omega arith, sum_turn params c.loop-left.left c.loop-left.sum _ (omega arith) (omega arith) (search rules) (search rules))
 
 pub returns : goal.returns
 returns c =
-    sum_all c.args.params.now c.loop-left.left _ (omega arith) (search rules)
+    fold_from_yields_List _ wrapped_plus _ _ c.fold.ensures.ran (YieldsList-from_rev_slice c.args.params.now cc) (λ a x b q k. search rules)
+    ∙ sum_folded c.args.params.now

@@ -5,6 +5,7 @@ pub fn title(rt: &impl Print, name: &str, fuel: u64) -> io::Result<()> {
     println!(rt; "{name}, fuel {fuel}")
 }
 
+// Each is one println: one function of both would be println itself.
 pub fn missing(rt: &impl Print) -> io::Result<()> {
     println!(rt; "cannot be opened")
 }

@@ -20,6 +20,7 @@ pub fn read(rt: &(impl Files + Print), name: &str, bytes: &mut [u8]) -> io::Resu
 }
 
 // As many bytes as there are, or as there is room for. As in vectors: nothing else stands on vector_text (docs/DECISIONS.md).
+// A while: each read says how far it came, and `read_exact` refuses a shorter file.
 fn read_full(file: &mut impl Read, bytes: &mut [u8]) -> io::Result<usize>
     ensures { ReadsAtMost result bytes.new }
 {

@@ -1,7 +1,7 @@
 // The reader's answers, each beside the cursor's and the iterator's. A line: the place, the answer's number, the next place (0 at the end), the
 // request's record (all 0 where there is none), and 1 where the cursor or the iterator answers otherwise.
 use crate::say;
-use record::{BadRecord, Record, ZERO_RECORD};
+use record::{BAD_RECORD, BadRecord, Record, ZERO_RECORD};
 use rules::Request;
 use std::io;
 
@@ -67,7 +67,7 @@ fn tell(answer: Next) -> Told {
             record: request::record_of(q),
         },
         Some((Err(BadRecord), next)) => Told {
-            number: 10,
+            number: BAD_RECORD,
             next,
             record: ZERO_RECORD,
         },
@@ -79,6 +79,7 @@ fn tell(answer: Next) -> Told {
     }
 }
 
+// By hand: record's `Record` has no equality.
 fn unlike(t: Told, u: Told) -> u64 {
     let r = t.record;
     let s = u.record;

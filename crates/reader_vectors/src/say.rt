@@ -1,4 +1,5 @@
 // Lines of output: a title that says what is asked, then numbers with a blank between.
+// The same stands in part_vectors, as docs/DECISIONS.md has it: there is no library of what programs print.
 use std::io;
 
 pub fn title(rt: &impl Print, words: &str) -> io::Result<()> {

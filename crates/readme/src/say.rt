@@ -19,6 +19,7 @@ pub fn taken(rt: &impl Print, answer: Result<DoneReason, NothingToTake>) -> io::
     }
 }
 
+// No Display: the types are of other crates. So `written`.
 fn returned(rt: &impl Print, reason: DoneReason) -> io::Result<()> {
     match reason {
         DoneReason::Returned(offset) => number(rt, "taken: returned", offset),

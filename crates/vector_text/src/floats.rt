@@ -8,6 +8,7 @@ const QUIET_NAN_32: u32 = 0x7fc0_0000;
 const QUIET_NAN_64: u64 = 0x7ff8_0000_0000_0000;
 
 // Of the low 32 bits.
+// Singles and doubles apart: std has no trait of both.
 pub fn single_of(n: u64) -> f32 {
     let bits = (n % 0x1_0000_0000) as u32;
     single_of_bits(bits)

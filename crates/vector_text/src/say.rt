@@ -38,6 +38,7 @@ fn file_name(rt: &(impl Env + Print), file: usize) -> io::Result<()> {
     }
 }
 
+// Each is one println: one function of both would be println itself.
 pub fn missing(rt: &(impl Env + Print), file: usize) -> io::Result<()> {
     file_name(rt, file)?;
     println!(rt; ": cannot be opened")

@@ -12,8 +12,16 @@ pub fn record_in(tokens: &[u64], from: usize) -> [u8; RECORD_BYTES] {
     record
 }
 
-// 0 beyond the end.
-pub fn word_at(bytes: &[u8], at: usize) -> u64 {
+// The first N numbers of bytes, 0 beyond the end.
+pub fn words_in<const N: usize>(bytes: &[u8]) -> [u64; N] {
+    let mut words = [0u64; N];
+    for (i, word) in words.iter_mut().enumerate() {
+        *word = word_at(bytes, i.wrapping_mul(8));
+    }
+    words
+}
+
+fn word_at(bytes: &[u8], at: usize) -> u64 {
     let mut word = [0u8; 8];
     for (i, byte) in word.iter_mut().enumerate() {
         *byte = byte_at(bytes, at.wrapping_add(i));

@@ -12,7 +12,7 @@ use std::rt::Env;
 use vector_text::fault::{Fault, LineError};
 use vector_text::floats::is_single;
 use vector_text::run::Run;
-use vector_text::tokens::{count, ends_within, fit_counts, place, token};
+use vector_text::tokens::{count, ends_within, fit_counts, numbers, place, token};
 use vector_text::traces::{RECORD_BYTES, record_in};
 
 // How many words an opening refills; of the cells it is all.
@@ -22,8 +22,12 @@ const ANSWER: [&str; 11] = [
     "number", "offset", "ip", "instance", "start", "end", "params", "results", "ireg", "f32", "f64",
 ];
 
-// A request by its ten numbers, from a place on.
+// A request by its ten numbers, from a place on: five counts of 16 bits, and five numbers.
 pub fn request_in(tokens: &[u64], kind: u64, from: usize) -> CRequest {
+    let [callerflag, caller, callee, instanceflag, instance] = numbers::<5>(
+        tokens,
+        from.wrapping_add(5),
+    );
     CRequest {
         kind,
         head: count(tokens, from),
@@ -31,11 +35,11 @@ pub fn request_in(tokens: &[u64], kind: u64, from: usize) -> CRequest {
         locals: count(tokens, from.wrapping_add(2)),
         slots: count(tokens, from.wrapping_add(3)),
         results: count(tokens, from.wrapping_add(4)),
-        callerflag: token(tokens, from.wrapping_add(5)),
-        caller: token(tokens, from.wrapping_add(6)),
-        callee: token(tokens, from.wrapping_add(7)),
-        instanceflag: token(tokens, from.wrapping_add(8)),
-        instance: token(tokens, from.wrapping_add(9)),
+        callerflag,
+        caller,
+        callee,
+        instanceflag,
+        instance,
     }
 }
 

@@ -92,7 +92,8 @@ fn open_named<R: Files + Env>(rt: &R, file: usize) -> io::Result<R::File> {
     }
 }
 
-// As many bytes as there are, or as there is room for.
+// As many bytes as there are, or as there is room for. As in listing_vectors: vector_text, which both could use, makes no promise.
+// A while: each read says how far it came, and `read_exact` refuses a shorter file.
 fn read_full(file: &mut impl Read, bytes: &mut [u8]) -> io::Result<usize>
     ensures { ReadsAtMost result bytes.new }
 {

@@ -1,21 +1,35 @@
 // A state as the numbers that a line tells, and back: D, M, words, L, count, len, flag and number of the current instance, the integer register, and
 // the bits of the two floats.
+// No From: the structs are of the face's crates, and an array is nobody's.
 use face::CState;
 use face_leaves::cattlecleat_read_registers;
 use regs::Registers;
 use vector_text::floats::{double_bits, double_of, single_bits, single_of};
 
 pub fn state_of(s: [u64; 11]) -> CState {
+    let [
+        depth,
+        height,
+        words,
+        cells,
+        count,
+        len,
+        currentflag,
+        current,
+        ireg,
+        single,
+        double,
+    ] = s;
     CState {
-        depth: s[0] as usize,
-        height: s[1] as usize,
-        words: s[2] as usize,
-        cells: s[3] as usize,
-        count: s[4] as usize,
-        len: s[5] as usize,
-        currentflag: s[6],
-        current: s[7],
-        regs: registers_of(s[8], s[9], s[10]),
+        depth: depth as usize,
+        height: height as usize,
+        words: words as usize,
+        cells: cells as usize,
+        count: count as usize,
+        len: len as usize,
+        currentflag,
+        current,
+        regs: registers_of(ireg, single, double),
     }
 }
 

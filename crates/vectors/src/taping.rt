@@ -5,7 +5,7 @@ use std::rt::Env;
 use vector_text::fault::LineError;
 use vector_text::run::Run;
 use vector_text::tokens::{ends_within, place};
-use vector_text::traces::{record_in, word_at};
+use vector_text::traces::{record_in, words_in};
 
 // Where the five words of the kept bytes begin among the numbers of a tape.
 const KEPT: usize = 7;
@@ -68,24 +68,25 @@ fn hold_tape<R: Env + Print>(
 }
 
 fn tape_of(state: [u64; 11], t: [u64; 12]) -> CTape {
+    let [number, fuel, spent, stopflag, cost, held, endflag, ..] = t;
     CTape {
         run: CRun {
             state: state_of(state),
-            number: t[0],
-            fuel: t[1],
-            spent: t[2],
-            stopflag: t[3],
-            cost: t[4],
+            number,
+            fuel,
+            spent,
+            stopflag,
+            cost,
         },
         kept: record_in(&t, KEPT),
-        held: t[5] as usize,
-        endflag: t[6],
+        held: held as usize,
+        endflag,
     }
 }
 
 fn tape_told(t: CTape) -> [u64; 12] {
     let run = t.run;
-    let kept = t.kept;
+    let [a, b, c, d, e] = words_in::<5>(&t.kept);
     [
         run.number,
         run.fuel,
@@ -94,10 +95,10 @@ fn tape_told(t: CTape) -> [u64; 12] {
         run.cost,
         t.held as u64,
         t.endflag,
-        word_at(&kept, 0),
-        word_at(&kept, 8),
-        word_at(&kept, 16),
-        word_at(&kept, 24),
-        word_at(&kept, 32),
+        a,
+        b,
+        c,
+        d,
+        e,
     ]
 }

@@ -1,4 +1,5 @@
 // What the C face answers, as the numbers that a line tells behind its bar.
+// No From: the structs are of the face's crates, and an array is nobody's.
 use face::CPart;
 use face_ask::CAnswer;
 use face_leaves::{CDone, CRead};

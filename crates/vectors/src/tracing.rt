@@ -7,8 +7,8 @@ use face_replay::{CRun, cattlecleat_replay};
 use std::rt::Env;
 use vector_text::fault::{Fault, LineError};
 use vector_text::run::Run;
-use vector_text::tokens::{ends_within, fit_counts, place, token};
-use vector_text::traces::word_at;
+use vector_text::tokens::{ends_within, fit_counts, numbers, place, token};
+use vector_text::traces::words_in;
 
 const RUN: [&str; 5] = ["number", "fuel", "spent", "stopped", "cost"];
 
@@ -27,13 +27,14 @@ pub fn replayed<R: Env + Print>(run: &mut Run<R>, tokens: &[u64]) -> Result<(), 
     let to = place(tokens, 7);
     ends_within(run.trace.len(), to)?;
     ends_within(to, from)?;
+    let [number, fuel, spent, stopflag, cost] = numbers::<5>(tokens, 1);
     let before = CRun {
         state: state_of(run.state),
-        number: token(tokens, 1),
-        fuel: token(tokens, 2),
-        spent: token(tokens, 3),
-        stopflag: token(tokens, 4),
-        cost: token(tokens, 5),
+        number,
+        fuel,
+        spent,
+        stopflag,
+        cost,
     };
     let after = replaying(run, before, from, to, token(tokens, 8));
     run.hold_all(tokens, 8, &RUN, &run_told(after), state_told(after.state))
@@ -72,15 +73,6 @@ pub fn written<R: Env + Print>(run: &mut Run<R>, tokens: &[u64]) -> Result<(), L
     let q = request_in(tokens, token(tokens, 3), 4);
     let n = len.min(run.trace.len());
     let number = cattlecleat_write_record(&mut run.trace[..n], place(tokens, 2), q);
-    let bytes = &*run.trace;
-    let told = [
-        number,
-        word_at(bytes, 0),
-        word_at(bytes, 8),
-        word_at(bytes, 16),
-        word_at(bytes, 24),
-        word_at(bytes, 32),
-        word_at(bytes, 40),
-    ];
-    run.hold(tokens, 13, &WRITTEN, &told)
+    let [a, b, c, d, e, f] = words_in::<6>(run.trace);
+    run.hold(tokens, 13, &WRITTEN, &[number, a, b, c, d, e, f])
 }

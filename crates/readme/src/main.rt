@@ -28,7 +28,7 @@ fn leaves(rt: &impl Print) -> io::Result<()> {
         Ok(address) => address, // 1008
         Err(NoAddress) => 0, // 15: ip below base, or no such address
     };
-    let (filled, slot) = DoneSlot::empty().done_with(DoneReason::Returned(7)); // Ok(()), and the slot
+    let (filled, slot) = DoneSlot::empty().done_with(DoneReason::Returned(7)); // Ok(())
     let (taken, after) = slot.take_done_reason(); // Ok(Returned(7)), and the slot empty again
     say::number(rt, "register", register)?;
     say::number(rt, "address", address)?;

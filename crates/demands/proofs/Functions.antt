@@ -224,8 +224,6 @@ use Rattle.face_ask.specs.contracts.cattlecleat_sync_registers as face_ask_cattl
 use Rattle.face_replay.specs.contracts.cattlecleat_feed as face_replay_cattlecleat_feed
 use Rattle.face_replay.specs.contracts.cattlecleat_finish as face_replay_cattlecleat_finish
 use Rattle.face_replay.specs.contracts.cattlecleat_replay as face_replay_cattlecleat_replay
-use Rattle.face_replay.specs.contracts.tapes.TapeFromCTape.from as face_replay_tapes_TapeFromCTape_from
-use Rattle.face_replay.specs.contracts.traces.RunFromCRun.from as face_replay_traces_RunFromCRun_from
 use Rattle.demands.specs.Settled.{Settled}
 
 pub settled_regs_align_U64FromNoAddress_from :
@@ -2998,32 +2996,4 @@ settled_face_replay_cattlecleat_replay = record {
       let e' = at_exit face_replay_cattlecleat_replay.ended κ a ws' in
       let s = face_replay_all.cattlecleat_replay_settled κ a r r' e e' p q in
       (λ i. (s i).0, λ i. (a.0, (at_last a.1.0 (s i).1.0, (at_last a.1.1.0 (s i).1.1, (a.1.1.1.0, tt)))));
-}
-
-pub settled_face_replay_tapes_TapeFromCTape_from :
-    Settled face_replay_tapes_TapeFromCTape_from.ended (λ M 𝓤 𝓛. face_replay_tapes_TapeFromCTape_from.clauses 𝓛) (λ κ r. r)
-settled_face_replay_tapes_TapeFromCTape_from = record {
-  Post = λ κ a r e. _;
-  asks_nothing = λ M 𝓤 𝓛 mem run κ a g. refl;
-  asks_no_ghost = λ M 𝓤 𝓛 mem run κ a. refl;
-  promises = λ M 𝓤 𝓛 mem run κ a g r e. refl;
-  once = λ κ a r r' ws ws' p q.
-      let e = at_exit face_replay_tapes_TapeFromCTape_from.ended κ a ws in
-      let e' = at_exit face_replay_tapes_TapeFromCTape_from.ended κ a ws' in
-      let s = face_replay_all.tape_from_c_tape_from_settled κ a r r' e e' p q in
-      (s, refl);
-}
-
-pub settled_face_replay_traces_RunFromCRun_from :
-    Settled face_replay_traces_RunFromCRun_from.ended (λ M 𝓤 𝓛. face_replay_traces_RunFromCRun_from.clauses 𝓛) (λ κ r. r)
-settled_face_replay_traces_RunFromCRun_from = record {
-  Post = λ κ a r e. _;
-  asks_nothing = λ M 𝓤 𝓛 mem run κ a g. refl;
-  asks_no_ghost = λ M 𝓤 𝓛 mem run κ a. refl;
-  promises = λ M 𝓤 𝓛 mem run κ a g r e. refl;
-  once = λ κ a r r' ws ws' p q.
-      let e = at_exit face_replay_traces_RunFromCRun_from.ended κ a ws in
-      let e' = at_exit face_replay_traces_RunFromCRun_from.ended κ a ws' in
-      let s = face_replay_all.run_from_c_run_from_settled κ a r r' e e' p q in
-      (s, refl);
 }

@@ -50,7 +50,7 @@ pub fn cattlecleat_to_register(kind: u64, number: u64) -> u64
 }
 
 // The number of a register, by the same types; a signed one has its sign in all 64 bits.
-#[tactic(auto, using(choice::proofs::Choices::choices), unfolding(crate::specs::Types::number_for))]
+#[tactic(auto, using(choice::proofs::Choices::choices, crate::proofs::Signed::sign_extended), unfolding(crate::specs::Types::number_for, choice::specs::Choose::choose))]
 pub fn cattlecleat_from_register(kind: u64, register: u64) -> u64
     ensures { result ≡ number_for kind register }
 {

@@ -1,20 +1,12 @@
 -- Each public promise allows one outcome: one result, and one list of what each lent buffer holds. Assumes nothing.
 use mathlib.Core.Path.{sym, ap, ◌∙◌}
-use Rattle.choice.specs.Once.{Once, OnceSeen, beside}
+use Rattle.choice.specs.Once.{OnceSeen, beside}
 use Rattle.face_replay.specs.Runs.{RunTold}
 use Rattle.face_replay.specs.declared.tapes.CFed.{CFed}
 use Rattle.face_replay.specs.Tapes.{TapeTold, FedTold}
 use Rattle.face_replay.proofs.traces.cattlecleat_replay.Reads as replays
-use Rattle.face_replay.proofs.traces.RunFromCRun.from.Reads as run-in
-use Rattle.face_replay.proofs.tapes.TapeFromCTape.from.Reads as tape-in
 use Rattle.face_replay.proofs.tapes.cattlecleat_feed.Reads as feeds
 use Rattle.face_replay.proofs.tapes.cattlecleat_finish.Reads as finishes
-
-pub run_from_c_run_from_settled : Once run-in.Post
-run_from_c_run_from_settled κ a r r' e e' p q = p ∙ sym q
-
-pub tape_from_c_tape_from_settled : Once tape-in.Post
-tape_from_c_tape_from_settled κ a r r' e e' p q = p ∙ sym q
 
 pub cattlecleat_replay_settled : OnceSeen replays.Post (λ κ r e. beside r (beside e.1.0.now e.1.1.0.now))
 cattlecleat_replay_settled κ a r r' e e' p q = ap (λ (t : RunTold). beside t.run (beside t.words t.cells)) (p ∙ sym q)

@@ -3,10 +3,9 @@ ghost use Rattle.std.specs.Prelude.{◌≡◌};
 ghost use Rattle.tape.specs.Tapes.{fed_number, feeding, end_told};
 ghost use Rattle.face_replay.specs.Tapes.{tape_from, flag_back, tape_back, tape_told, fed_told, taping_from, taping_back, feeding_back};
 
-use crate::traces::{CRun, run_back};
+use crate::traces::{CRun, run_back, run_from};
 use record::RECORD_SIZE;
 use regs::InRegister;
-use replay::Run;
 use tape::{AfterEnd, Tape, feed, finish};
 
 // A tape in its course.
@@ -32,7 +31,7 @@ pub fn cattlecleat_feed(t: CTape, words: &mut [u64], cells: &mut [u64], block: &
     ensures { fed_told result words.new cells.new
         ≡ feeding_back t (feeding (taping_from t words.old cells.old) block.now) }
 {
-    let mut tape = Tape::from(t);
+    let mut tape = tape_from(t);
     let fed = feed(&mut tape, words, cells, block);
     CFed {
         number: fed_number(fed),
@@ -45,7 +44,7 @@ pub fn cattlecleat_finish(t: CTape, words: &mut [u64], cells: &mut [u64]) -> CTa
     ensures { tape_told result words.new cells.new
         ≡ taping_back t (end_told (taping_from t words.old cells.old)) }
 {
-    let mut tape = Tape::from(t);
+    let mut tape = tape_from(t);
     finish(&mut tape, words, cells);
     tape_back(t, tape)
 }
@@ -59,18 +58,17 @@ fn fed_number(fed: Result<(), AfterEnd>) -> u64
     }
 }
 
-impl From<CTape> for Tape {
-    ghost from_gives = { λ c t. t ≡ tape_from c };
-
-    fn from(c: CTape) -> Tape {
-        let run = c.run;
-        let kept = c.kept;
-        Tape {
-            run: Run::from(run),
-            kept,
-            held: c.held,
-            ended: bool::from_register(c.endflag),
-        }
+// No From, as `run_from`.
+fn tape_from(c: CTape) -> Tape
+    ensures { result ≡ tape_from c }
+{
+    let run = c.run;
+    let kept = c.kept;
+    Tape {
+        run: run_from(run),
+        kept,
+        held: c.held,
+        ended: bool::from_register(c.endflag),
     }
 }
 

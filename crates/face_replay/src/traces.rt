@@ -26,21 +26,20 @@ pub fn cattlecleat_replay(run: CRun, words: &mut [u64], cells: &mut [u64], trace
     ensures { run_told result words.new cells.new
         ≡ running_back run (replayed (running_from run words.old cells.old) trace.now) }
 {
-    run_back(run, replay(Run::from(run), words, cells, trace))
+    run_back(run, replay(run_from(run), words, cells, trace))
 }
 
-impl From<CRun> for Run {
-    ghost from_gives = { λ c r. r ≡ run_from c };
-
-    fn from(c: CRun) -> Run {
-        let held = c.state;
-        Run {
-            state: State::from(held),
-            number: c.number,
-            fuel: c.fuel,
-            spent: c.spent,
-            stop: bool::from_register(c.stopflag).then_some(c.cost),
-        }
+// No From, which would be public: of the registers in a run no promise settles a NaN's payload (docs/OPEN-PROMISES.md).
+pub(crate) fn run_from(c: CRun) -> Run
+    ensures { result ≡ run_from c }
+{
+    let held = c.state;
+    Run {
+        state: State::from(held),
+        number: c.number,
+        fuel: c.fuel,
+        spent: c.spent,
+        stop: bool::from_register(c.stopflag).then_some(c.cost),
     }
 }
 

@@ -7,5 +7,6 @@ pub mod Pinned
 pub mod Packing
 pub mod Arms
 pub mod ByKind
+pub mod Left
 pub mod Turns
 pub mod Settled

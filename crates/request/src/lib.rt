@@ -34,7 +34,10 @@ pub fn next_request(bytes: &[u8], at: usize) -> Option<(Result<Request, BadRecor
         return None;
     }
     let next = place_after(bytes, at);
-    Some((read_record(bytes, at).map(request_in), next))
+    match read_record(bytes, at) {
+        Ok(r) => Some((Ok(request_in(r)), next)),
+        Err(BadRecord) => Some((Err(BadRecord), next)),
+    }
 }
 
 // The place behind the record at a place: 40 bytes on, and no further than the end.

@@ -13,7 +13,7 @@ use native.Mathlib.Decide.{dec_lt}
 use lib.Dec.{eqb}
 use lib.ListN.{length, take, drop, replicate, length-append, length-take, length-drop}
 use lib.Seq.{take_all}
-use borrow.Author.Tests.{ne_eqb}
+use borrow.Author.Tests.{eqb-true, ne_eqb}
 use Rattle.choice.specs.Choose.{choose}
 use Rattle.choice.proofs.Choices.{chosen_second, chosen_holds}
 use Rattle.runs.proofs.Lists.{sets_whole}
@@ -34,6 +34,10 @@ use Rattle.tape.proofs.Cutting.{from_none, from_missing, missing_bytes, parted, 
 pub replay_nothing : (v : Running) → replayed v [] ≡ v
 unfolding replayed ran_all
 replay_nothing v = ap (ran_all v) (entries_end [] 0 (omega arith))
+
+pub empty_unrun : (v : Running) (bytes : List ℕ) → eqb (length bytes) 0 ≡ true → v ≡ replayed v bytes
+empty_unrun v [] e = sym (replay_nothing v)
+empty_unrun v (b ∷ bytes) e = let none : length (b ∷ bytes) ≡ 0 = eqb-true (length (b ∷ bytes)) 0 e in absurd (omega arith)
 
 -- ---- what is run of a cut
 abbrev pub own_run : Cut → (block : List ℕ) → List ℕ

@@ -5,7 +5,7 @@ use crate::run::Run;
 use crate::say;
 use crate::say::Names;
 use crate::sums::sum_of;
-use crate::tokens::{BAR, token};
+use crate::tokens::{BAR, least, token};
 use std::io;
 use std::rt::Env;
 
@@ -133,7 +133,7 @@ impl<'r, R: Env + Print> Run<'r, '_, '_, '_, R> {
 
     // Every lent word, or a sum.
     fn hold_words(&self, mark: &mut Mark<R>) -> io::Result<()> {
-        let n = self.words_lent.min(self.words.len());
+        let n = least(self.words_lent, self.words.len());
         if self.is_full {
             return mark.hold(Names::List("word"), &self.words[..n]);
         }
@@ -143,7 +143,7 @@ impl<'r, R: Env + Print> Run<'r, '_, '_, '_, R> {
 
     // Every lent cell, or a sum.
     fn hold_cells(&self, mark: &mut Mark<R>) -> io::Result<()> {
-        let n = self.cells_lent.min(self.cells.len());
+        let n = least(self.cells_lent, self.cells.len());
         if self.is_full {
             return mark.hold(Names::List("cell"), &self.cells[..n]);
         }

@@ -1,4 +1,6 @@
 // The numbers of a line. The first is its word; those before the first bar are given, those behind it expected.
+ghost use Rattle.std.specs.Prelude.{◌≡◌, min};
+
 use crate::fault::Fault;
 
 // '|' and a number that is not there; no number of a line is one of them. Numbers, as what is found is told by numbers too and held to them one by one.
@@ -59,4 +61,11 @@ pub fn ends_within(len: usize, end: usize) -> Result<(), Fault> {
     } else {
         Err(Fault::Outside)
     }
+}
+
+// The lesser: how many are there, where so many are lent of so many.
+pub fn least(a: usize, b: usize) -> usize
+    ensures { result ≡ min a b }
+{
+    a.min(b)
 }

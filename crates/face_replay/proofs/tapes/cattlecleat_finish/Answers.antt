@@ -6,4 +6,4 @@ use Rattle.face_replay.proofs.tapes.cattlecleat_finish.Goals as goal
 pub returns : goal.returns
 returns c =
     tape_is_told _ c.args.t _ _ _ _ c.tape_back.ensures
-    (c.finish.ensures ∙ finish_at _ _ c.from-tape.ensures _ _)
+    (c.finish.ensures ∙ finish_at _ _ c.tape_from-tape.ensures _ _)

@@ -8,4 +8,4 @@ returns c =
     run_is_told _ c.args.run
     c.replay.result _ _ _ c.run_back.ensures
     (c.replay.ensures
-    ∙ replay_at _ _ c.from.ensures _ _ _)
+    ∙ replay_at _ _ c.run_from.ensures _ _ _)
